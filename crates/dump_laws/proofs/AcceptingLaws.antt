@@ -12,6 +12,7 @@ use Rattle.point_core.specs.declared.fault.Place.{Place}
 use Rattle.value_core.specs.Limits.{most_statement_bytes}
 use Rattle.tree_core.specs.Relvars.{State}
 use Rattle.dump_core.specs.Texts.{SourceText}
+use Rattle.meaning_core.specs.Declarations.{counted}
 use Rattle.utd_lexer.specs.Tokens.{place_after}
 use Rattle.utd_statement.specs.Answers.{Answer, Changed, answer, text_of, is_accepted, state_after}
 use Rattle.utd_statement.specs.Keeping.{texts_after}
@@ -28,7 +29,7 @@ use Rattle.dump_laws.proofs.Cuts.{in_order}
 
 pub takes-then : (place : Place) (bytes : List ℕ) (r : State) (texts : List SourceText) (After Then : Outcome) → ((next : State) (more : List SourceText) → After next more → Then next more)
     → Takes place bytes r texts After → Takes place bytes r texts Then
-takes-then place bytes r texts After Then f (x, next, one, read, e, h) = (x, next, one, read, e, f next (texts_after bytes x true texts) h)
+takes-then place bytes r texts After Then f (x, next, one, read, e, h) = (x, next, one, read, e, f (counted next) (texts_after bytes x true texts) h)
 
 pub all-then : (ss : List (List ℕ)) (r : State) (texts : List SourceText) (After Then : Outcome) → ((next : State) (more : List SourceText) → After next more → Then next more)
     → TakesAll ss r texts After → TakesAll ss r texts Then
@@ -70,7 +71,7 @@ short place bytes x le is = subst (λ b. IsShort b place bytes x) (sym (le-leb (
 
 one-taken : (place : Place) (bytes : List ℕ) (ss : List Statement) (r next : State) (texts : List SourceText) (x : Reading) (After : Outcome) → IsReading (Complete place bytes) x
     → answer r x ≡ Changed next
-    → HasTaken ss next (texts_after bytes x true texts) After → HasTaken (Complete place bytes ∷ ss) r texts After
+    → HasTaken ss (counted next) (texts_after bytes x true texts) After → HasTaken (Complete place bytes ∷ ss) r texts After
 one-taken place bytes ss r next texts x After read e h = record {
   readings = x ∷ h.readings;
   read = (read, h.read);
@@ -78,7 +79,7 @@ one-taken place bytes ss r next texts x After read e h = record {
   left = h.left;
   steps = λ n.
       ap (λ (a : Answer). in_turn (record { state = state_after r a; output = text_of n a; accepted = is_accepted a }) (all_steps (state_after r a) (n + 1) h.readings)) e
-      ∙ ap (in_turn (record { state = next; output = []; accepted = true })) (h.steps (n + 1));
+      ∙ ap (in_turn (record { state = counted next; output = []; accepted = true })) (h.steps (n + 1));
   kept = ap (λ (a : Answer). all_kept (state_after r a) (texts_after bytes x (is_accepted a) texts) ss h.readings) e ∙ h.kept;
   after = h.after;
 }
@@ -91,10 +92,10 @@ has-taken place (s ∷ ss) [] r texts After forms h = absurd forms
 has-taken place (s ∷ ss) (b ∷ bs) r texts After forms h =
     let (x, next, one, read, e, rest) = h place b forms.0.0 in
     one-taken place b (in_order (place_after place b) bs) r next texts x After (short place b x forms.0.1 read) e
-    (has-taken (place_after place b) ss bs next (texts_after b x true texts) After forms.1 rest)
+    (has-taken (place_after place b) ss bs (counted next) (texts_after b x true texts) After forms.1 rest)
 
 pub ones-taken : (ss : List (List ℕ)) (r : State) (texts : List SourceText) (After : Outcome) → TakesAll ss r texts After → AllByRecursion IsOneStatement ss
 ones-taken [] r texts After h = tt
 ones-taken (s ∷ ss) r texts After h =
     let (x, next, one, read, e, rest) = h first_place s (inl refl) in
-    (one, ones-taken ss next (texts_after s x true texts) After rest)
+    (one, ones-taken ss (counted next) (texts_after s x true texts) After rest)

@@ -2,6 +2,7 @@
 --     IsStanding      the texts say what they say in the state, which is made of that and well made
 --     run-more      with what a declaration says
 --     run-without-group, run-without-rule, run-with-rows      without a relvar or view, without a database constraint, and with other rows
+--     run-counted      with one accepted statement more
 use Rattle.std.proofs.Common.{◌≡◌, inl, inr, ℕ, ◌≤◌, Bool, true, false, not, List, [], ◌∷◌, ◌++◌, length, arith, refl, sym, ap, ◌∙◌, subst, append_assoc, append-nil, length-append}
 use Rattle.std.proofs.Common.{Option, Some, None}
 use Rattle.std.specs.Prelude.{◌||◌, is_some}
@@ -19,9 +20,10 @@ use Rattle.tree_core.specs.Relvars.{State, PlainRelvar, base, view, Entries, rel
 use Rattle.tree_core.specs.Trees.{Test}
 use Rattle.tree_core.specs.Uses.{is_one_of}
 use Rattle.dump_core.specs.Texts.{SourceText, forgotten}
-use Rattle.meaning_core.specs.Declarations.{group, without_group, without_rule}
+use Rattle.meaning_core.specs.Declarations.{counted, group, without_group, without_rule}
 use Rattle.meaning_core.specs.Typing.{IsTypedTree, IsTypedTest}
 use Rattle.meaning_core.specs.WellMade.{sizes_of, headings_of, AreRelvars, IsWellMade}
+use Rattle.meaning_core.proofs.AcceptedLemmas.{made-counted}
 use Rattle.meaning_core.proofs.MadeLemmas.{same_name}
 use Rattle.meaning_core.proofs.RowlessLemmas.{bare_all, bare_entry}
 use Rattle.declaration_typing.specs.Drops.{relvars_use, rules_use, is_used, is_of_history}
@@ -234,5 +236,19 @@ run-with-rows w texts ds fs is same then =
       listed = listed-with w ds fs same is.listed;
       made = then;
       few = let l = sym (length-map fs bare_entry) ∙ (ap length same ∙ length-map w.relvars bare_entry) in let m = is.few in omega (arith, l, m);
+      small = stays-small w r texts ds is follows;
+    }
+
+-- with one accepted statement more
+pub run-counted : (w : State) (texts : List SourceText) (ds : List Said) → IsStanding w texts ds → IsStanding (counted w) texts ds
+run-counted w texts ds is =
+    let r : State = counted w in
+    let then : IsWellMade r = made-counted w _ is.made in
+    let follows : IsFollowed none_of_them w r = follows-rows w r is.made then refl in
+    record {
+      texts = texts-stay w r [] texts ds (stays-said w r texts ds is follows) is.texts;
+      listed = record { ordinals = is.listed.ordinals; early = is.listed.early; views = is.listed.views; rules = is.listed.rules; different = is.listed.different };
+      made = then;
+      few = is.few;
       small = stays-small w r texts ds is follows;
     }

@@ -7,7 +7,7 @@ use Rattle.std.proofs.Common.{◌≡◌, Bool, true, false, not, cond, List, [],
 use Rattle.std.specs.List.{filter}
 use Rattle.std.specs.Str.{bytes_eq}
 use Rattle.value_core.specs.Values.{Name}
-use Rattle.tree_core.specs.Relvars.{State, PlainRelvar, base, view, Entries, relvar_named, heading_if, constraints_if, history_if}
+use Rattle.tree_core.specs.Relvars.{State, PlainRelvar, base, view, Entries, relvar_named, heading_if, constraints_if, history_if, log}
 use Rattle.tree_core.specs.Trees.{Tree}
 use Rattle.meaning_core.proofs.RowlessLemmas.{bare, bare_all}
 use Rattle.meaning_laws.specs.Likeness.{LikeIf, Alike}
@@ -24,6 +24,7 @@ use Rattle.dump_laws.proofs.NamingLaws.{IsView, tree_in}
 relvar-bare : (r : PlainRelvar) → without_rows r ≡ bare r
 relvar-bare (base value constraints) = refl
 relvar-bare (view t history) = refl
+relvar-bare (log o k w) = refl
 
 pub emptied-bare : (es : Entries) → map emptied es ≡ bare_all es
 emptied-bare [] = refl
@@ -33,12 +34,14 @@ pub early-emptied : (e : Name × PlainRelvar) → is_early (emptied e) ≡ is_ea
 early-emptied (name, base value constraints) = refl
 early-emptied (name, view t None) = refl
 early-emptied (name, view t (Some names)) = refl
+early-emptied (name, log o k w) = refl
 
 late-as-it-is : (es : Entries) → map emptied (filter is_late es) ≡ filter is_late es
 late-as-it-is [] = refl
 late-as-it-is ((name, base value constraints) ∷ es) = late-as-it-is es
 late-as-it-is ((name, view t None) ∷ es) = ap (λ (l : Entries). (name, view t None) ∷ l) (late-as-it-is es)
 late-as-it-is ((name, view t (Some names)) ∷ es) = late-as-it-is es
+late-as-it-is ((name, log o k w) ∷ es) = ap (λ (l : Entries). (name, log o k w) ∷ l) (late-as-it-is es)
 
 module _ (es fs : Entries) (same : bare_all fs ≡ bare_all es) where
   all-emptied : map emptied fs ≡ map emptied es
@@ -89,6 +92,17 @@ abbrev IsViewIf : Option PlainRelvar → Type 0
 IsViewIf None = ⊥
 IsViewIf (Some r) = IsView r
 
+-- or a log
+abbrev IsLogIf : Option PlainRelvar → Type 0
+IsLogIf None = ⊥
+IsLogIf (Some (base v c)) = ⊥
+IsLogIf (Some (view t h)) = ⊥
+IsLogIf (Some (log o k w)) = Unit {0}
+
+abbrev relvar_if : PlainRelvar → Option PlainRelvar → PlainRelvar
+relvar_if other None = other
+relvar_if other (Some r) = r
+
 abbrev tree_if : Tree → Option PlainRelvar → Tree
 tree_if other None = other
 tree_if other (Some r) = tree_in other r
@@ -104,6 +118,11 @@ like-bare (Some (base v c)) (Some (base u d)) e = (ap heading_if (sym e), ap con
 like-bare (Some (base v c)) (Some (view u g)) e = absurd (subst IsViewIf (sym e) tt)
 like-bare (Some (view t h)) (Some (base u d)) e = absurd (subst IsViewIf e tt)
 like-bare (Some (view t h)) (Some (view u g)) e = (((λ p. p), ap (tree_if t) (sym e) ∙ sym (tree-same t)), ap history_if (sym e))
+like-bare (Some (base v c)) (Some (log o k w)) e = absurd (subst IsLogIf (sym e) tt)
+like-bare (Some (view t h)) (Some (log o k w)) e = absurd (subst IsLogIf (sym e) tt)
+like-bare (Some (log o k w)) (Some (base u d)) e = absurd (subst IsLogIf e tt)
+like-bare (Some (log o k w)) (Some (view u g)) e = absurd (subst IsLogIf e tt)
+like-bare (Some (log o k w)) (Some (log p j v)) e = ap (relvar_if (log o k w)) (sym e)
 
 pub alike-rows : (some : Name → Bool) (es fs : Entries) → bare_all fs ≡ bare_all es → Alike some es fs
 alike-rows some es fs same name none =

@@ -1,6 +1,6 @@
 -- The insertion of a base relvar's next rows, at the head of a script or behind a byte 10.
 --     insert-first-step, insert-later-step      the law
---     loads-accepted, loads-state, loads-text      what is told of such a statement
+--     loads-accepted, loads-text      what is told of such a statement
 use Rattle.std.proofs.Common.{◌≡◌, ℕ, ◌+◌, true, List, [], ◌∷◌, take, drop, Some, None, Ok, ap, ◌∙◌, refl, arith, IsTrue}
 use Rattle.std.specs.List.{All, list_all}
 use Rattle.std.proofs.lemmas.Bool.{and_parts}
@@ -25,7 +25,7 @@ use Rattle.utd_lexer.specs.Tokens.{next_place}
 use Rattle.utd_syntax.specs.Plain.{StatementP}
 use Rattle.constant_laws.specs.Insertions.{Adding, IsPlainInsertion}
 use Rattle.constant_effects.proofs.EffectLemmas.{plain-done}
-use Rattle.utd_statement.specs.Answers.{Changed, answer, of_checked, of_tree, unless_fault, unless_refused, is_accepted, state_after}
+use Rattle.utd_statement.specs.Answers.{Changed, answer, of_checked, of_tree, unless_fault, unless_refused, is_accepted}
 use Rattle.utd_statement.specs.Keeping.{Keeping, Leaves, keeping_of, settled, texts_after}
 use Rattle.utd_statement.specs.Readings.{Tree as TreeOf}
 use Rattle.text_laws.specs.Statements.{IsOneStatement}
@@ -136,9 +136,6 @@ module _ (es : Entries) (i n size : ℕ) (name : Name) (v : Relation) (c : List 
 module _ (q : Place) (bytes : List ℕ) (es : Entries) (i n : ℕ) (r : State) (is : Loads q bytes es i n r) where
   pub loads-accepted : is_accepted (answer r (TreeOf is.tree)) ≡ true
   loads-accepted = ap is_accepted is.answered
-
-  pub loads-state : state_after r (answer r (TreeOf is.tree)) ≡ record r { relvars = loaded i n es }
-  loads-state = ap (state_after r) is.answered
 
   pub loads-text : (texts : List SourceText) → texts_after bytes (TreeOf is.tree) true texts ≡ texts
   loads-text texts = ap (λ (k : Keeping). settled k (without_gaps bytes) true texts) is.keeping

@@ -15,7 +15,7 @@ use Rattle.base_core.proofs.MemberLemmas.{In-filter, In-flat_map, In-map, list_a
 use Rattle.base_core.proofs.SetLemmas.{In}
 use Rattle.value_core.specs.declared.list.OrdinalNames.{OrdinalNames}
 use Rattle.value_core.specs.Values.{Name}
-use Rattle.tree_core.specs.Relvars.{State, PlainRelvar, base, view, Entries, Rules, relvar_named}
+use Rattle.tree_core.specs.Relvars.{State, PlainRelvar, base, view, Entries, Rules, relvar_named, log}
 use Rattle.tree_core.specs.Trees.{Test}
 use Rattle.meaning_core.proofs.ElsewhereLemmas.{some-apart}
 use Rattle.meaning_core.proofs.MadeLemmas.{own_name, same_name}
@@ -83,11 +83,12 @@ in-named (k ∷ es) x i = elim i [
     by true more = refl
     by false more = more
 
--- a view that no history has is as it is without rows
+-- a view that no history has is as it is without rows, and so is a log
 pub late-same : (x : Name × PlainRelvar) → is_early x ≡ false → emptied x ≡ x
 late-same (name, base value constraints) e = absurd (true≢false e)
 late-same (name, view t None) e = refl
 late-same (name, view t (Some names)) e = refl
+late-same (name, log o k w) e = refl
 
 module _ (w : State) (ds : List Said) (made : IsListedAs w ds) where
   -- ---- what is said stands in the state

@@ -14,6 +14,8 @@ use Rattle.value_core.specs.Values.{Name}
 use Rattle.tree_core.specs.Relvars.{State, Entries}
 use Rattle.tree_core.specs.Trees.{Test}
 use Rattle.meaning_core.specs.Truths.{holds_in}
+use Rattle.meaning_core.specs.Declarations.{counted}
+use Rattle.meaning_core.proofs.AcceptedLemmas.{made-counted}
 use Rattle.meaning_core.specs.WellMade.{IsWellMade}
 use Rattle.dump_core.specs.Texts.{SourceText}
 use Rattle.typing_laws.specs.Saying.{Said, said_ordinal, said_base, said_view, said_history, said_rule, said_names_any, moved_said, entries_said, ordinals_said, with_said}
@@ -26,7 +28,7 @@ use Rattle.dump_laws.specs.Phases.{IsBare, StandsEarly, StandsLate}
 use Rattle.dump_laws.specs.Standing.{is_rule_said, in_script_order, AreSaidFrom}
 use Rattle.dump_laws.proofs.ReachedLaws.{early_said, views_said, rules_of, known-early, known-view, known-rule, held-here}
 use Rattle.dump_laws.proofs.SegmentLaws.{TextStep, segment-taken}
-use Rattle.dump_laws.proofs.StandingLaws.{stands-more}
+use Rattle.dump_laws.proofs.StandingLaws.{stands-more, stands-counted}
 use Rattle.dump_laws.proofs.StepLaws.{step-for, alike-here}
 
 -- what is declared leaves a well made state
@@ -82,10 +84,10 @@ module _ (text-step : TextStep) (keeps-made : KeepsMade) (w : State) (ds : List 
 
   early-next : (done rest : List Said) (d : Said) (t : SourceText) (place : Place) (bytes : List ℕ) (r : State) → early_said ds ≡ done ++ d ∷ rest → StandsEarly done r
       → (x : Declares place bytes r t d)
-      → StandsEarly (done ++ d ∷ []) (with_said r (moved_said x.move d))
+      → StandsEarly (done ++ d ∷ []) (counted (with_said r (moved_said x.move d)))
   early-next done rest d t place bytes r e h x = record {
-    stands = stands-more done r x.move d h.stands;
-    fits = keeps-made place bytes r t d x h.fits;
+    stands = stands-counted (done ++ d ∷ []) (with_said r (moved_said x.move d)) (stands-more done r x.move d h.stands);
+    fits = made-counted (with_said r (moved_said x.move d)) _ (keeps-made place bytes r t d x h.fits);
     bare = bare-append r.relvars (entries_said (moved_said x.move d)) h.bare (bare-said (moved_said x.move d));
   }
 
@@ -98,10 +100,10 @@ module _ (text-step : TextStep) (keeps-made : KeepsMade) (w : State) (ds : List 
 
   late-next : (done : List Said) (d : Said) (t : SourceText) (place : Place) (bytes : List ℕ) (r : State) → (is_view_said d ≡ true) ⊎ (is_rule_said d ≡ true) → StandsLate w done r
       → (x : Declares place bytes r t d)
-      → StandsLate w (done ++ d ∷ []) (with_said r (moved_said x.move d))
+      → StandsLate w (done ++ d ∷ []) (counted (with_said r (moved_said x.move d)))
   late-next done d t place bytes r kind h x = record {
-    stands = stands-more done r x.move d h.stands;
-    fits = keeps-made place bytes r t d x h.fits;
+    stands = stands-counted (done ++ d ∷ []) (with_said r (moved_said x.move d)) (stands-more done r x.move d h.stands);
+    fits = made-counted (with_said r (moved_said x.move d)) _ (keeps-made place bytes r t d x h.fits);
     bases = filter-append is_base r.relvars (entries_said (moved_said x.move d)) ∙
         (ap (λ (l : Entries). filter is_base r.relvars ++ l) (no-base d kind x.move) ∙ (append-nil (filter is_base r.relvars) ∙ h.bases));
   }
@@ -126,10 +128,10 @@ module _ (text-step : TextStep) (keeps-made : KeepsMade) (w : State) (ds : List 
       (free-of-rules r d (inr is.1))
 
   views-next : (done rest : List Said) (d : Said) (t : SourceText) (place : Place) (bytes : List ℕ) (r : State) → views_said ds ≡ done ++ d ∷ rest → InViews done r → (x : Declares place bytes r t d)
-      → InViews (done ++ d ∷ []) (with_said r (moved_said x.move d))
+      → InViews (done ++ d ∷ []) (counted (with_said r (moved_said x.move d)))
   views-next done rest d t place bytes r e h x =
       let is = kind-of is_view_said ds done rest d e in
-      subst (λ (l : List Said). StandsLate w l (with_said r (moved_said x.move d))) (append_assoc (early_said ds) done (d ∷ [])) (late-next (early_said ds ++ done) d t place bytes r (inl is.1) h x)
+      subst (λ (l : List Said). StandsLate w l (counted (with_said r (moved_said x.move d)))) (append_assoc (early_said ds) done (d ∷ [])) (late-next (early_said ds ++ done) d t place bytes r (inl is.1) h x)
 
   pub views-taken : (ts : List SourceText) (r : State) (texts : List SourceText) (After : Outcome) → StandsLate w (early_said ds) r
       → AreSaidFrom w (flat_map ordinals_said (early_said ds)) ts (views_said ds)
@@ -178,12 +180,12 @@ module _ (text-step : TextStep) (keeps-made : KeepsMade) (w : State) (ds : List 
         (rule-held done rest r d e is.0 is.1 h)
 
     rules-next : (done rest : List Said) (d : Said) (t : SourceText) (place : Place) (bytes : List ℕ) (r : State) → rules_of ds ≡ done ++ d ∷ rest → InRules done r → (x : Declares place bytes r t d)
-        → InRules (done ++ d ∷ []) (with_said r (moved_said x.move d))
+        → InRules (done ++ d ∷ []) (counted (with_said r (moved_said x.move d)))
     rules-next done rest d t place bytes r e h x =
         let is = kind-of is_rule_said ds done rest d e in
         let same : (early_said ds ++ (views_said ds ++ done)) ++ d ∷ [] ≡ early_said ds ++ (views_said ds ++ (done ++ d ∷ [])) =
         append_assoc (early_said ds) (views_said ds ++ done) (d ∷ []) ∙ ap (λ (l : List Said). early_said ds ++ l) (append_assoc (views_said ds) done (d ∷ [])) in
-        subst (λ (l : List Said). StandsLate w l (with_said r (moved_said x.move d))) same (late-next (early_said ds ++ (views_said ds ++ done)) d t place bytes r (inr is.1) h x)
+        subst (λ (l : List Said). StandsLate w l (counted (with_said r (moved_said x.move d)))) same (late-next (early_said ds ++ (views_said ds ++ done)) d t place bytes r (inr is.1) h x)
 
     pub rules-taken : (ts : List SourceText) (r : State) (texts : List SourceText) (After : Outcome) → StandsLate w (early_said ds ++ views_said ds) r
         → AreSaidFrom w (flat_map ordinals_said (early_said ds ++ views_said ds)) ts (rules_of ds)

@@ -11,7 +11,7 @@ use Rattle.base_core.proofs.MemberLemmas.{In-map}
 use Rattle.base_core.proofs.SetLemmas.{In}
 use Rattle.value_core.specs.declared.constraint.Constraint.{Constraint}
 use Rattle.value_core.specs.Values.{Name, Heading, Relation}
-use Rattle.tree_core.specs.Relvars.{State, PlainRelvar, base, view, Entries, relvar_named}
+use Rattle.tree_core.specs.Relvars.{State, PlainRelvar, base, view, Entries, relvar_named, log}
 use Rattle.tree_core.specs.Trees.{Tree}
 use Rattle.meaning_core.proofs.MadeLemmas.{own_name}
 use Rattle.typing_laws.specs.Saying.{Said, said_base, said_view, entries_said}
@@ -116,6 +116,7 @@ pub record IsOfBase (r : PlainRelvar) (c : List Constraint) : Type 0 where
 of-base : (r : PlainRelvar) (u : Relation) (c : List Constraint) → without_rows r ≡ base u c → IsOfBase r c
 of-base (base v d) u c e = let same : d ≡ c = cc in record { value = v; is = ap (base v) same }
 of-base (view t history) u c e = absurd (cc)
+of-base (log o k w) u c e = absurd (cc)
 
 -- where an entry stands: those before it are these
 pub record IsPlaced (w : State) (p : Name × PlainRelvar → Bool) (f : Name × PlainRelvar → Name × PlainRelvar) (front : Entries) (name : Name) (r : PlainRelvar) : Type 0 where

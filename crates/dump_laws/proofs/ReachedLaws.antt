@@ -11,7 +11,7 @@ use Rattle.base_core.proofs.MemberLemmas.{In-append, In-filter, In-map}
 use Rattle.base_core.proofs.SetLemmas.{In}
 use Rattle.point_core.specs.declared.fault.Place.{Place}
 use Rattle.value_core.specs.Values.{Name}
-use Rattle.tree_core.specs.Relvars.{State, PlainRelvar, base, view, Entries, relvar_named}
+use Rattle.tree_core.specs.Relvars.{State, PlainRelvar, base, view, Entries, relvar_named, log}
 use Rattle.tree_core.specs.Trees.{Test}
 use Rattle.tree_core.specs.Uses.{test_names_any}
 use Rattle.meaning_core.specs.Truths.{holds_in}
@@ -129,6 +129,8 @@ module _ (w : State) (ds : List Said) (made : IsMadeOf w ds) (well : IsWellMade 
             subst (λ (o : Option PlainRelvar). ValueIf (Some (base v c)) o) (sym found) refl
         by (Some (view t history)) None e f = tt
         by (Some (view t history)) (Some y) e f = tt
+        by (Some (log o k w)) None e f = tt
+        by (Some (log o k w)) (Some y) e f = tt
 
     pub held-here : All (λ (x : Name × Test). holds_in w.relvars x.1 ≡ true) w.rules → (name : Name) (t : Test) → In (said_rule name t) ds → test_names_any (lacks r) t ≡ false → (f : Place → Place)
         → holds_in r.relvars (moved_test f t) ≡ true

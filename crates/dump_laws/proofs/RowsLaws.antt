@@ -7,7 +7,9 @@ use Rattle.std.proofs.Common.{◌≡◌, ℕ, ◌+◌, true, List, [], refl, sym
 use Rattle.std.specs.List.{filter, flat_map}
 use Rattle.point_core.specs.declared.fault.Place.{Place}
 use Rattle.tree_core.specs.Relvars.{State, Entries, Rules}
+use Rattle.meaning_core.specs.Declarations.{counted}
 use Rattle.meaning_core.specs.WellMade.{IsWellMade}
+use Rattle.meaning_core.proofs.AcceptedLemmas.{made-counted}
 use Rattle.meaning_core.proofs.RowlessLemmas.{bare-keeps}
 use Rattle.dump_core.specs.Inserts.{rows_a_statement, rows_of_state, HaveRelations}
 use Rattle.dump_core.specs.Texts.{SourceText}
@@ -78,12 +80,12 @@ module _ (w : State) (ds : List Said) (made : IsMadeOf w ds) (kept : IsKept w) (
       rules =
           subst (λ (rs : Rules). AreMovedRules rs s.rules) (sym no-said-rules) (subst (λ (rs : Rules). AreMovedRules [] rs) (sym n) tt);
     };
-    fits = subst IsWellMade as-full (bare-keeps r full (filled-rowless (filter is_early w.relvars) r.relvars like-early) h.fits);
+    fits = subst IsWellMade as-full (made-counted (record r { relvars = full }) s.accepted (bare-keeps r full (filled-rowless (filter is_early w.relvars) r.relvars like-early) h.fits));
     bases = ap (filter is_base) e ∙ rows-bases;
   }
     where
-      as-full : record r { relvars = full } ≡ s
-      as-full = λ i. record { ordinals = (first-ordinals ∙ sym o) i; relvars = sym e i; rules = (first-rules ∙ sym n) i }
+      as-full : record r { relvars = full; accepted = s.accepted } ≡ s
+      as-full = λ i. record { ordinals = (first-ordinals ∙ sym o) i; relvars = sym e i; rules = (first-rules ∙ sym n) i; accepted = s.accepted }
 
   module _ (can : CanBring w.ordinals full) (texts : List SourceText) (After : Outcome) (then : (last : State) → StandsLate w (filter is_early_said ds) last → After last texts) where
     -- from a database with such relvars on, the statements are accepted
@@ -100,7 +102,7 @@ module _ (w : State) (ds : List Said) (made : IsMadeOf w ds) (kept : IsKept w) (
           x.one,
           x.text,
           x.answered,
-          subst (λ (us : List SourceText). TakesAll later next us After) (sym (brings-text place bytes s now x texts)) (more next refl o none),
+          subst (λ (us : List SourceText). TakesAll later (counted next) us After) (sym (brings-text place bytes s now x texts)) (more (counted next) refl o none),
         )
 
     pub rows-taken : TakesAll (rows_of_state w) r texts After

@@ -48,7 +48,7 @@ use Rattle.typing_laws.proofs.SayingLaws.{checked-says}
 use Rattle.assign_core.specs.Assignments.{assigned_in}
 use Rattle.assign_core.specs.Databases.{no_relvars}
 use Rattle.assign_core.specs.Items.{assignments_of}
-use Rattle.utd_statement.specs.Answers.{Answer, Changed, Table, Truth, Refusal, unless_fault, relation_in, unless_refused, if_allowed, of_checked, of_tree, answer, is_accepted, state_after}
+use Rattle.utd_statement.specs.Answers.{Answer, Done, Changed, made_by, Table, Truth, Refusal, unless_fault, relation_in, unless_refused, if_allowed, of_checked, of_tree, answer, is_accepted, state_after}
 use Rattle.utd_statement.specs.Keeping.{Keeping, Keeps, Forgets, Leaves, kind_of, keeping_of, settled}
 use Rattle.utd_statement.specs.Readings.{Reading, Refused, IsText}
 use Rattle.utd_statement.specs.Readings as readings
@@ -60,7 +60,7 @@ use Rattle.text_laws.specs.Statements.{IsOneStatement}
 use Rattle.dump_laws.specs.Kept.{IsTextOf, AreTexts, IsMadeOf, IsSmall}
 use Rattle.dump_laws.proofs.AssignedLaws.{all-typed, assigned-rows}
 use Rattle.dump_laws.proofs.Cuts.{IsOneText, cut-ones}
-use Rattle.dump_laws.proofs.DeclaredLaws.{IsStanding, run-more, run-without-group, run-without-rule, run-with-rows}
+use Rattle.dump_laws.proofs.DeclaredLaws.{IsStanding, run-counted, run-more, run-without-group, run-without-rule, run-with-rows}
 use Rattle.dump_laws.proofs.OutcomeLaws.{given-same}
 
 -- ---- one statement
@@ -69,9 +69,9 @@ abbrev IsTree : Reading → Type 0
 IsTree (readings.Tree tree) = Unit {0}
 IsTree (Refused refuse) = ⊥
 
--- what stands after an answer
+-- what stands after an answer, before the statement is counted
 abbrev IsKeptBy : State → List SourceText → Keeping → List ℕ → Answer → Type 0
-IsKeptBy w texts keeping bytes a = (us : List Said) × IsStanding (state_after w a) (settled keeping bytes (is_accepted a) texts) us
+IsKeptBy w texts keeping bytes a = (us : List Said) × IsStanding (made_by w a) (settled keeping bytes (is_accepted a) texts) us
 
 module _ (w : State) (texts : List SourceText) (ds : List Said) (is : IsStanding w texts ds) where
   -- what is refused leaves all as it is
@@ -222,9 +222,18 @@ module _ (w : State) (texts : List SourceText) (ds : List Said) (is : IsStanding
 
   -- ---- what is read
 
+  -- and so it stands with the statement counted
+  counted-kept : (keeping : Keeping) (bytes : List ℕ) (a : Answer) → IsKeptBy w texts keeping bytes a → (us : List Said) × IsStanding (state_after w a) (settled keeping bytes (is_accepted a) texts) us
+  counted-kept keeping bytes (Changed new) h = (h.0, run-counted new (settled keeping bytes true texts) h.0 h.1)
+  counted-kept keeping bytes Done h = (h.0, run-counted w (settled keeping bytes true texts) h.0 h.1)
+  counted-kept keeping bytes (Table types relation) h = (h.0, run-counted w (settled keeping bytes true texts) h.0 h.1)
+  counted-kept keeping bytes (Truth b) h = (h.0, run-counted w (settled keeping bytes true texts) h.0 h.1)
+  counted-kept keeping bytes (Refusal refuse) h = h
+
   short-kept : (place : Place) (bytes : List ℕ) (r : Reading) (b : Bool) → nat_le (length bytes) most_in_statement ≡ b → IsShort b place bytes r → IsOneStatement bytes
       → (us : List Said) × IsStanding (state_after w (answer w r)) (kept_after w texts (Complete place bytes) r) us
-  short-kept place bytes (readings.Tree tree) true q h one = tree-kept place bytes tree h one (leb-true (length bytes) most_in_statement q)
+  short-kept place bytes (readings.Tree tree) true q h one =
+      counted-kept (keeping_of tree) (without_gaps bytes) (of_tree w tree) (tree-kept place bytes tree h one (leb-true (length bytes) most_in_statement q))
   short-kept place bytes (readings.Tree tree) false q h one = absurd (subst IsTree h tt)
   short-kept place bytes (Refused refuse) b q h one = (ds, is)
 

@@ -29,7 +29,7 @@ use Rattle.place_laws.specs.Held.{unheld}
 use Rattle.relation_typing.specs.Attributes.{name_typed, is_name}
 use Rattle.relation_typing.specs.Attributes as attributes
 use Rattle.relation_typing.specs.Headings.{heading_typed, kind_typed, attributes_typed}
-use Rattle.tree_core.specs.Relvars.{State, PlainRelvar, base, view}
+use Rattle.tree_core.specs.Relvars.{State, PlainRelvar, base, view, log}
 use Rattle.tree_core.specs.declared.declaration.HistoryData.{HistoryData}
 use Rattle.dump_core.specs.Texts.{SourceText}
 use Rattle.meaning_core.specs.Histories.{with_attribute}
@@ -218,6 +218,7 @@ entry-sayable e (said_rule name t) held i = absurd i
 with-rows : (e : Name × PlainRelvar) → Sayable (emptied e) → Sayable e
 with-rows (name, base value constraints) held = held
 with-rows (name, view t history) held = held
+with-rows (name, log o k w) held = held
 
 -- what a state is made of, its limits aside
 pub listed-of : (w : State) (ds : List Said) → IsMadeOf w ds → IsListedAs w ds

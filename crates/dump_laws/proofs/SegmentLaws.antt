@@ -7,6 +7,7 @@ use Rattle.point_core.specs.declared.fault.Place.{Place}
 use Rattle.value_core.specs.declared.list.OrdinalNames.{OrdinalNames}
 use Rattle.tree_core.specs.Relvars.{State}
 use Rattle.dump_core.specs.Texts.{SourceText}
+use Rattle.meaning_core.specs.Declarations.{counted}
 use Rattle.utd_statement.specs.Readings.{Tree as TreeOf}
 use Rattle.typing_laws.specs.Saying.{Said, moved_said, ordinals_said, with_said}
 use Rattle.dump_laws.specs.Kept.{IsTextOf}
@@ -28,7 +29,7 @@ module _ (text-step : TextStep) (w : State) (front part : List Said) (Inv : List
     → IsTextOf (record w { ordinals = types }) t d
     → IsStepFor w r types more t d)
     (next : (done rest : List Said) (d : Said) (t : SourceText) (place : Place) (bytes : List ℕ) (r : State) → part ≡ done ++ d ∷ rest → Inv done r → (x : Declares place bytes r t d)
-    → Inv (done ++ d ∷ []) (with_said r (moved_said x.move d)))
+    → Inv (done ++ d ∷ []) (counted (with_said r (moved_said x.move d))))
   where
     types-more : (done : List Said) (d : Said) → flat_map ordinals_said (front ++ (done ++ d ∷ [])) ≡ flat_map ordinals_said (front ++ done) ++ ordinals_said d
     types-more done d = ap (flat_map ordinals_said) (sym (append_assoc front done (d ∷ []))) ∙ given-last ordinals_said (front ++ done) d
@@ -46,13 +47,14 @@ module _ (text-step : TextStep) (w : State) (front part : List Said) (Inv : List
         let later : List SourceText = texts ++ t ∷ [] in
         let whole : part ≡ (done ++ d ∷ []) ++ rest = e ∙ sym (append_assoc done (d ∷ []) rest) in
         let more_said : AreSaidFrom w (flat_map ordinals_said (front ++ (done ++ d ∷ []))) ts rest = subst (λ (l : List OrdinalNames). AreSaidFrom w l ts rest) (sym (types-more done d)) said in
-        let rest_taken : TakesAll (map (λ (u : SourceText). u.bytes) ts) (with_said r (moved_said x.move d)) later After =
-        segment-taken (done ++ d ∷ []) rest ts (with_said r (moved_said x.move d)) later After whole (next done rest d t place bytes r e h x) more_said
+        let next_state : State = counted (with_said r (moved_said x.move d)) in
+        let rest_taken : TakesAll (map (λ (u : SourceText). u.bytes) ts) next_state later After =
+        segment-taken (done ++ d ∷ []) rest ts next_state later After whole (next done rest d t place bytes r e h x) more_said
         (λ last k. subst (After last) (sym (append_assoc texts (t ∷ []) ts)) (then last k)) in (
           TreeOf x.tree,
           with_said r (moved_said x.move d),
           x.one,
           x.text,
           x.answered,
-          subst (λ (us : List SourceText). TakesAll (map (λ (u : SourceText). u.bytes) ts) (with_said r (moved_said x.move d)) us After) (sym (declared-text place bytes r t d x texts)) rest_taken,
+          subst (λ (us : List SourceText). TakesAll (map (λ (u : SourceText). u.bytes) ts) next_state us After) (sym (declared-text place bytes r t d x texts)) rest_taken,
         )

@@ -17,6 +17,7 @@ use Rattle.value_core.specs.declared.list.OrdinalNames.{OrdinalNames}
 use Rattle.value_core.specs.Values.{Name}
 use Rattle.tree_core.specs.Relvars.{State, PlainRelvar, Entries, Rules, relvar_named}
 use Rattle.tree_core.specs.Trees.{Test}
+use Rattle.meaning_core.specs.Declarations.{counted}
 use Rattle.meaning_core.specs.WellMade.{sizes_of, IsWellMade}
 use Rattle.meaning_core.proofs.ElsewhereLemmas.{view_names, IsApart}
 use Rattle.meaning_core.proofs.MadeLemmas.{own_name}
@@ -68,6 +69,9 @@ stands-more done r f d h = record {
       subst (λ (rs : Rules). AreMovedRules rs (r.rules ++ rules_said (moved_said f d))) (sym (given-last rules_said done d))
       (rules-append (flat_map rules_said done) r.rules (rules_said d) (rules_said (moved_said f d)) h.rules (moved-rules f d));
 }
+
+pub stands-counted : (done : List Said) (r : State) → Stands done r → Stands done (counted r)
+stands-counted done r h = record { ordinals = h.ordinals; relvars = h.relvars; rules = h.rules }
 
 pub none-stand : (r : State) → r.ordinals ≡ [] → r.relvars ≡ [] → r.rules ≡ [] → Stands [] r
 none-stand r a b c = record {

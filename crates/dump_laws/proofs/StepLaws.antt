@@ -17,7 +17,7 @@ use Rattle.point_core.specs.declared.fault.Place.{Place}
 use Rattle.value_core.specs.declared.list.OrdinalNames.{OrdinalNames}
 use Rattle.value_core.specs.Limits.{most_ordinal_types, most_relvars, most_nodes, most_rules}
 use Rattle.value_core.specs.Values.{Name}
-use Rattle.tree_core.specs.Relvars.{State, PlainRelvar, base, view, Entries}
+use Rattle.tree_core.specs.Relvars.{State, PlainRelvar, base, view, Entries, log}
 use Rattle.tree_core.specs.Trees.{Tree, Test}
 use Rattle.meaning_core.specs.Typing.{IsTypedTree}
 use Rattle.meaning_core.specs.WellMade.{sizes_of, headings_of, IsRelvar, AreRelvars, IsWellMade, IsTypedFor, IsTypedTestFor}
@@ -77,6 +77,7 @@ module _ (w : State) (ds : List Said) (made : IsMadeOf w ds) (well : IsWellMade 
     where
       from : (x : Name × PlainRelvar) → In x w.relvars → view t None ≡ (emptied x).1 → IsTypedFor w t
       from (n, base v c) j e = absurd (cc)
+      from (n, log o k w) j e = absurd (cc)
       from (n, view u history) j e =
           let same : t ≡ u = cc in
           let here = entry-typed (n, view u history) j in

@@ -2,7 +2,7 @@
 --     keeping-moved      a statement with its places moved is kept alike
 --     of-said      what type checking gives is added to the state
 --     text-first-step, text-later-step      the law
---     declared-text, declared-accepted, declared-state      what is told of such a statement
+--     declared-text, declared-accepted      what is told of such a statement
 use Rattle.std.proofs.Common.{◌≡◌, ℕ, Bool, true, cond, List, [], ◌∷◌, ◌++◌, Ok, Err, refl, sym, ap, ◌∙◌, subst}
 use Rattle.point_core.specs.declared.fault.Place.{Place}
 use Rattle.point_core.specs.declared.fault.Code.TheVariants.{E45}
@@ -15,7 +15,7 @@ use Rattle.utd_lexer.specs.Gaps.{without_gaps}
 use Rattle.utd_syntax.specs.Plain as syntax
 use Rattle.utd_syntax.specs.Plain.{StatementP}
 use Rattle.type_check.specs.Checks.{checked}
-use Rattle.utd_statement.specs.Answers.{Changed, answer, of_checked, of_tree, unless_fault, if_allowed, is_accepted, state_after}
+use Rattle.utd_statement.specs.Answers.{Changed, answer, of_checked, of_tree, unless_fault, if_allowed, is_accepted}
 use Rattle.utd_statement.specs.Keeping.{Keeping, keeping_of, settled, texts_after}
 use Rattle.utd_statement.specs.Readings.{Tree as TreeOf, IsText}
 use Rattle.place_laws.specs.Moved.{moved_statement}
@@ -101,9 +101,6 @@ module _ (w r : State) (types more : List OrdinalNames) (t : SourceText) (d : Sa
 module _ (q : Place) (bytes : List ℕ) (r : State) (t : SourceText) (d : Said) (is : Declares q bytes r t d) where
   pub declared-accepted : is_accepted (answer r (TreeOf is.tree)) ≡ true
   declared-accepted = ap is_accepted is.answered
-
-  pub declared-state : state_after r (answer r (TreeOf is.tree)) ≡ with_said r (moved_said is.move d)
-  declared-state = ap (state_after r) is.answered
 
   pub declared-text : (texts : List SourceText) → texts_after bytes (TreeOf is.tree) true texts ≡ texts ++ t ∷ []
   declared-text texts = ap (λ (k : Keeping). settled k (without_gaps bytes) true texts) is.keeping ∙ ap (λ (b : List ℕ). kept t.kind t.name b texts) is.begun

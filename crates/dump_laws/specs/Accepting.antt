@@ -7,6 +7,7 @@ use Rattle.std.specs.Prelude.{◌≡◌, ◌⊎◌, ℕ, true, List, [], ◌∷�
 use Rattle.point_core.specs.declared.fault.Place.{Place}
 use Rattle.tree_core.specs.Relvars.{State}
 use Rattle.dump_core.specs.Texts.{SourceText}
+use Rattle.meaning_core.specs.Declarations.{counted}
 use Rattle.utd_statement.specs.Answers.{Changed, answer}
 use Rattle.utd_statement.specs.Keeping.{texts_after}
 use Rattle.utd_statement.specs.Readings.{Reading, IsText}
@@ -23,7 +24,7 @@ IsForm s bytes = (bytes ≡ s) ⊎ (bytes ≡ 10 ∷ s)
 -- from this place on the bytes are read as one statement that changes the state, and this holds then
 abbrev pub Takes : Place → List ℕ → State → List SourceText → Outcome → Type 0
 Takes place bytes r texts After =
-    (x : Reading) × (next : State) × IsOneStatement bytes × IsText place bytes x × (answer r x ≡ Changed next) × After next (texts_after bytes x true texts)
+    (x : Reading) × (next : State) × IsOneStatement bytes × IsText place bytes x × (answer r x ≡ Changed next) × After (counted next) (texts_after bytes x true texts)
 
 -- each in turn, and this holds behind the last
 abbrev pub TakesAll : List (List ℕ) → State → List SourceText → Outcome → Type 0

@@ -12,7 +12,7 @@ use Rattle.point_core.specs.declared.fault.Place.{Place}
 use Rattle.value_core.specs.declared.list.OrdinalNames.{OrdinalNames}
 use Rattle.value_core.specs.Limits.{most_statement_bytes, most_relvars, most_ordinal_types, most_rules, most_nodes}
 use Rattle.value_core.specs.Values.{Name}
-use Rattle.tree_core.specs.Relvars.{State, PlainRelvar, base, view}
+use Rattle.tree_core.specs.Relvars.{State, PlainRelvar, base, view, log}
 use Rattle.declaration_typing.specs.Nodes.{nodes_of, test_nodes}
 use Rattle.dump_core.specs.declared.texts.TextKind.{TextKind}
 use Rattle.dump_core.specs.declared.texts.TextKind.TheVariants.{Early, View, Rule}
@@ -73,6 +73,7 @@ abbrev pub is_early_relvar : PlainRelvar → Bool
 is_early_relvar (base value constraints) = true
 is_early_relvar (view t None) = false
 is_early_relvar (view t (Some names)) = true
+is_early_relvar (log o k w) = false
 
 abbrev pub is_early : Name × PlainRelvar → Bool
 is_early e = is_early_relvar e.1

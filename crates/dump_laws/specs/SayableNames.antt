@@ -7,7 +7,7 @@ use Rattle.value_core.specs.declared.kind.Kind.{Kind}
 use Rattle.value_core.specs.declared.list.OrdinalNames.{OrdinalNames}
 use Rattle.value_core.specs.Lengths.{IsNameLength}
 use Rattle.value_core.specs.Values.{Name, Heading}
-use Rattle.tree_core.specs.Relvars.{State, PlainRelvar, base, view}
+use Rattle.tree_core.specs.Relvars.{State, PlainRelvar, base, view, log}
 use Rattle.since_during.specs.Histories.{since_heading, during_heading}
 use Rattle.text_laws.specs.Sayable.{is_sayable}
 use Rattle.typing_laws.specs.Saying.{Said, said_ordinal, said_base, said_view, said_history, said_rule}
@@ -32,10 +32,11 @@ AreSayableSaid (said_rule name t) = IsSayable name
 abbrev pub IsSayableType : OrdinalNames → Type 0
 IsSayableType o = IsSayable o.name × All IsSayable o.values
 
--- a relvar's name and those of its attributes, and a view's name
+-- a relvar's name and those of its attributes, and the name of a view or a log
 abbrev pub IsSayableRelvar : Name → PlainRelvar → Type 0
 IsSayableRelvar name (base value constraints) = IsSayable name × AreSayableIn value.heading
 IsSayableRelvar name (view t history) = IsSayable name
+IsSayableRelvar name (log o k w) = IsSayable name
 
 pub record HasSayableNames (w : State) : Type 0 where
   pub ordinals : All IsSayableType w.ordinals

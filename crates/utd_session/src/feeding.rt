@@ -1,7 +1,8 @@
 // A session: a script that comes in pieces.
-ghost use Rattle.std.specs.Prelude.{◌≡◌, ℕ, ◌+◌, ◌-◌, ◌^◌, ◌<◌, ◌≤◌, true, ◌&&◌, List, [], ◌∷◌, ◌++◌, length, IfOk, OnOk, OnErr, IfErr, IsOk, MatchOption, MatchResult, IfSome};
+ghost use Rattle.std.specs.Prelude.{◌≡◌, ℕ, pos, ◌<ℤ◌, ◌≤ℤ◌, ◌+ℤ◌, ◌+◌, ◌-◌, ◌^◌, ◌<◌, ◌≤◌, true, ◌&&◌, List, [], ◌∷◌, ◌++◌, length, IfOk, OnOk, OnErr, IfErr, IsOk, MatchOption, MatchResult, IfSome};
 ghost use Rattle.utd_io.specs.Io.{Rose, Gains, GainsPrefix};
 ghost use Rattle.point_core.specs.declared.fault.Place.{Place};
+ghost use Rattle.point_core.specs.Whole.{greatest_whole};
 ghost use Rattle.value_core.specs.Limits.{most_script_bytes};
 ghost use Rattle.utd_lexer.specs.Cutting.{Since};
 ghost use Rattle.utd_lexer.specs.Tokens.{Fits, place_after};
@@ -54,6 +55,7 @@ pub struct Session {
     ghost numbered: { number + unfinished.size ≤ fed + 1 },
     ghost begun: { (unfinished.start.line ≤ fed + 1) × (unfinished.start.column ≤ fed + 1) },
     ghost placed: { (unfinished.next.line ≤ fed + 1) × (unfinished.next.column ≤ fed + 1) },
+    ghost counted: { database.accepted ≤ℤ pos fed },
 }
 
 // The answer to the statement that is ended, and the database and the texts after it. One that is too long is refused unread. For want of
@@ -66,10 +68,12 @@ fn answer_to_ended<L: Ledger>(
     unfinished: &Unfinished,
     steps: &mut Steps<L>,
 ) -> Result<Reply, Memory>
-    requires { unfinished.now.start.line + unfinished.now.start.column ≤ 2 ^ 31 }
+    requires start { unfinished.now.start.line + unfinished.now.start.column ≤ 2 ^ 31 }
+    requires room { (state_of database.old).accepted <ℤ greatest_whole }
     ensures reply { (place : Place) (bytes : List ℕ) → IsUnfinished unfinished.now place bytes
         → IfOk result (λ r. IsReplyTo (Complete place bytes) (state_of database.old) (state_of database.new) texts.old texts.new number r) }
     ensures stays { OnErr result (state_of database.new ≡ state_of database.old) }
+    ensures count { (state_of database.new).accepted ≤ℤ ((state_of database.old).accepted +ℤ pos 1) }
     ensures cost { (place : Place) (bytes : List ℕ) → IsUnfinished unfinished.now place bytes
         → TakesAtMost (Complete place bytes) (state_of database.old) steps.old steps.new }
 {
@@ -101,10 +105,12 @@ fn reply_to_end<L: Ledger>(
     requires places { Fits unfinished.old.next (length prefix.now) }
     requires start { unfinished.old.start.line + unfinished.old.start.column ≤ 2 ^ 31 }
     requires few { unfinished.old.size + length prefix.now ≤ 2 ^ 32 - 1 }
+    requires room { (state_of database.old).accepted <ℤ greatest_whole }
     ensures reply { (place : Place) (bytes : List ℕ) → IsUnfinished unfinished.old place bytes
         → IfOk result (λ r. IsReplyTo (Complete place (bytes ++ prefix.now))
         (state_of database.old) (state_of database.new) texts.old texts.new number r) }
     ensures stays { OnErr result (state_of database.new ≡ state_of database.old) }
+    ensures count { (state_of database.new).accepted ≤ℤ ((state_of database.old).accepted +ℤ pos 1) }
     ensures more { (place : Place) (bytes : List ℕ) → IsUnfinished unfinished.old place bytes
         → OnOk result (IsUnfinished unfinished.new place (bytes ++ prefix.now)) }
     ensures size { unfinished.new.size ≡ unfinished.old.size + length prefix.now }

@@ -2,7 +2,7 @@
 --     rows_answered, rows_paid      where they bring rows
 --     tree_answered, refused_answered      where they are read as a tree, or refused
 --     state_stays      for want of memory
-use Rattle.std.proofs.Common.{◌≡◌, ◌≤◌, ◌+◌, inr, ℕ, Bool, true, false, List, Result, Ok, Err, Vec, Global, IfOk, refl, sym, subst}
+use Rattle.std.proofs.Common.{◌≡◌, inr, ℕ, Bool, true, false, List, Result, Ok, Err, Vec, Global, IfOk, refl, sym, subst}
 use Rattle.std.specs.Prelude.{OnErr}
 use Rattle.point_core.specs.declared.fault.Place.{Place}
 use Rattle.point_core.specs.declared.memory.Memory.{Memory as NoMemory}
@@ -27,10 +27,10 @@ left_so bytes false texts = refl
 texts_left : (keeping : Keeping) (bytes : List ℕ) (accepted : Bool) (texts : List SourceText) → keeping ≡ Leaves → texts ≡ settled keeping bytes accepted texts
 texts_left keeping bytes accepted texts e = subst (λ (k : Keeping). texts ≡ settled k bytes accepted texts) (sym e) (left_so bytes accepted texts)
 
-pub rows_answered : (start : Place) (bytes : List ℕ) (written : Result (Vec ℕ Global) Refuse) (old new : State) (before now n : ℕ) (texts : List SourceText) (result : Result Reply NoMemory)
-    → (done : IsDoneBy start bytes written old new before now) → IsAnswered result n old new (of_tree old done.tree) → IfOk result (λ reply. IsAnswerTo start bytes n old new texts texts reply)
-rows_answered start bytes written old new before now n texts (Ok reply) done h = (Tree done.tree, done.text, h.0, h.1, texts_left (keeping_of done.tree) (without_gaps bytes) _ texts done.leaves)
-rows_answered start bytes written old new before now n texts (Err memory) done h = tt
+pub rows_answered : (start : Place) (bytes : List ℕ) (written : Result (Vec ℕ Global) Refuse) (old mid new : State) (before now n : ℕ) (texts : List SourceText) (result : Result Reply NoMemory)
+    → (done : IsDoneBy start bytes written old mid before now) → IsAnswered result n old new (of_tree old done.tree) → IfOk result (λ reply. IsAnswerTo start bytes n old new texts texts reply)
+rows_answered start bytes written old mid new before now n texts (Ok reply) done h = (Tree done.tree, done.text, h.0, h.1, texts_left (keeping_of done.tree) (without_gaps bytes) _ texts done.leaves)
+rows_answered start bytes written old mid new before now n texts (Err memory) done h = tt
 
 pub rows_paid : (start : Place) (bytes : List ℕ) (written : Result (Vec ℕ Global) Refuse) (old new : State) (before now : ℕ) → IsDoneBy start bytes written old new before now → TakesAtMost start bytes old before now
 rows_paid start bytes written old new before now done = inr (Tree done.tree, done.text, done.cost)

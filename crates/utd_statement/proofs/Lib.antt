@@ -6,3 +6,4 @@ pub mod RangeLaws
 pub mod CostLemmas
 pub mod BringingLemmas
 pub mod AnswerLemmas
+pub mod CountedLemmas

@@ -14,7 +14,7 @@ use Rattle.meaning_core.specs.Names.{given}
 use Rattle.meaning_core.proofs.LookupLemmas.{given_none, heading_read}
 use Rattle.type_check.specs.Checks.{print}
 use Rattle.utd_print.specs.Tables.{table}
-use Rattle.utd_statement.specs.Answers.{Answer, Table, unless_fault, relation_in, of_checked, state_after}
+use Rattle.utd_statement.specs.Answers.{Answer, Table, unless_fault, relation_in, of_checked, made_by}
 use Rattle.utd_statement.specs.Replies.{IsTextOf, IsPerformed}
 
 -- ---- expressions
@@ -25,7 +25,7 @@ relation_is state t r h =
     let same = subst (λ (es : Entries). Answers r (under t.heading (meaning_in es (read_tree t)))) (given_none None state.relvars) h in
     subst (λ (heading : Heading). Answers r (under heading (meaning_in state.relvars (read_tree t)))) (heading_read t) same
 
-module _ {A : Type 0} (f : A → Answer) (state : State) (stays : (v : A) → state_after state (f v) ≡ state) where
+module _ {A : Type 0} (f : A → Answer) (state : State) (stays : (v : A) → made_by state (f v) ≡ state) where
   -- the fault of an evaluation
   stop_performed : (stop : Stop) (meant : OrFault A) → Answers {A = A} (Err stop) meant → IsPerformed (Err (refusal_of stop)) state state (unless_fault f meant)
   stop_performed (stops.Fault e) meant h = (ap (unless_fault f) h, refl)

@@ -1,7 +1,8 @@
 -- What is answered to a statement, and the state after it.
 --     Answer      what is answered
 --     of_tree, answer      to a tree in a state, and to what a statement is read as
---     text_of, is_accepted, state_after      what an answer writes, whether it accepts, and the state that it leaves
+--     text_of, is_accepted      what an answer writes, and whether it accepts
+--     made_by, state_after      what it makes of the state, and the state that it leaves, in which an accepted statement is counted
 use Rattle.std.specs.Prelude.{ℕ, Bool, true, false, List, [], Result, Ok, Err}
 use Rattle.point_core.specs.Faults.{OrFault}
 use Rattle.value_core.specs.declared.list.OrdinalNames.{OrdinalNames}
@@ -11,7 +12,7 @@ use Rattle.value_core.specs.Values.{Relation}
 use Rattle.relation_core.specs.Answers.{under}
 use Rattle.tree_core.specs.Relvars.{Entries, State}
 use Rattle.tree_core.specs.Trees.{Tree, heading_of}
-use Rattle.meaning_core.specs.Declarations.{with_declaration, without_group, without_rule}
+use Rattle.meaning_core.specs.Declarations.{counted, with_declaration, without_group, without_rule}
 use Rattle.meaning_core.specs.Meanings.{meaning_in}
 use Rattle.meaning_core.specs.Truths.{truth_in}
 use Rattle.assign_core.specs.Assignments.{assigned_in, constrained}
@@ -89,10 +90,18 @@ is_accepted (Table types relation) = true
 is_accepted (Truth b) = true
 is_accepted (Refusal refuse) = false
 
--- the state after a statement in a state: a refused one, and one that writes, leaves it as it is
+-- what a statement makes of a state: a refused one, and one that writes, leaves it as it is
+abbrev pub made_by : State → Answer → State
+made_by state (Changed new) = new
+made_by state Done = state
+made_by state (Table types relation) = state
+made_by state (Truth b) = state
+made_by state (Refusal refuse) = state
+
+-- the state after a statement in a state: one that is accepted is counted
 abbrev pub state_after : State → Answer → State
-state_after state (Changed new) = new
-state_after state Done = state
-state_after state (Table types relation) = state
-state_after state (Truth b) = state
+state_after state (Changed new) = counted new
+state_after state Done = counted state
+state_after state (Table types relation) = counted state
+state_after state (Truth b) = counted state
 state_after state (Refusal refuse) = state

@@ -8,7 +8,7 @@ use Rattle.value_core.specs.declared.refuse.Refuse.TheVariants as refuses
 use Rattle.tree_core.specs.Relvars.{State}
 use Rattle.dump_core.specs.Texts.{SourceText}
 use Rattle.utd_statement.specs.declared.reply.Reply.{Reply}
-use Rattle.utd_statement.specs.Answers.{Answer, Refusal, answer, text_of, is_accepted, state_after}
+use Rattle.utd_statement.specs.Answers.{Answer, Refusal, answer, text_of, is_accepted, state_after, made_by}
 use Rattle.utd_statement.specs.Keeping.{texts_after}
 use Rattle.utd_statement.specs.Readings.{Reading, IsText}
 
@@ -32,9 +32,9 @@ IsRefusedWith (refuses.At fault) answer = answer ≡ Refusal (refuses.At fault)
 IsRefusedWith (refuses.Plain code) answer = answer ≡ Refusal (refuses.Plain code)
 IsRefusedWith (refuses.Broken code relvar number) answer = answer ≡ Refusal (refuses.Broken code relvar number)
 
--- the text of the answer where that accepts, and the state that the answer leaves; or its refusal, or want of memory, and the state as it was
+-- the text of the answer where that accepts, and what the answer makes of the state; or its refusal, or want of memory, and the state as it was
 abbrev pub IsPerformed : Result (Vec ℕ Global) Refuse → State → State → Answer → Type 0
-IsPerformed (Ok text) old new answer = IsTextOf answer text × (new ≡ state_after old answer)
+IsPerformed (Ok text) old new answer = IsTextOf answer text × (new ≡ made_by old answer)
 IsPerformed (Err refuse) old new answer = IsRefusedWith refuse answer × (new ≡ old)
 
 -- a statement of these bytes is replied to by what it is read as, which leaves its state and its texts

@@ -1,4 +1,5 @@
 use Rattle.std.proofs.Common.{◌++◌, ◌∙◌, sym, ap, subst, arith}
+use Rattle.std.proofs.lemmas.Int.{ints}
 use Rattle.point_core.specs.declared.fault.Place.{Place}
 use Rattle.utd_io.specs.Io.{Gains, GainsPrefix}
 use Rattle.utd_lexer.specs.Cutting.{Since}
@@ -9,15 +10,20 @@ use Rattle.utd_statement.specs.Readings.{Reading}
 use Rattle.utd_session.proofs.SessionLemmas.{with_more, is_end, after_one, text_is, taken_in}
 use Rattle.utd_session.proofs.feeding.Session.end.Goals as goal
 
+pub reply_to_end-requires-clause-room : goal.reply_to_end-requires-clause-room
+reply_to_end-requires-clause-room g c = let old = c.args.self.now in omega (arith, ints, old.counted, old.few)
+
 pub invariant_of-self : goal.invariant_of-self
 invariant_of-self g c =
     let b = with_more c.args.self.now c.reply_to_end.new.unfinished c.args.prefix.now c.reply_to_end.ensures.size c.reply_to_end.ensures.start c.reply_to_end.ensures.next in
-    record { few = c.requires.few; numbered = b.0; begun = b.1; placed = b.2 }
+    let old = c.args.self.now in
+    record { few = c.requires.few; numbered = b.0; begun = b.1; placed = b.2; counted = omega (arith, ints, old.counted, c.reply_to_end.ensures.count, c.requires.some) }
 
 pub invariant_of-self-in_default-write_all : goal.invariant_of-self-in_default-write_all
 invariant_of-self-in_default-write_all g c =
     let b = with_more c.args.self.now c.reply_to_end.new.unfinished c.args.prefix.now c.reply_to_end.ensures.size c.reply_to_end.ensures.start c.reply_to_end.ensures.next in
-    record { few = c.requires.few; numbered = b.0; begun = b.1; placed = b.2 }
+    let old = c.args.self.now in
+    record { few = c.requires.few; numbered = b.0; begun = b.1; placed = b.2; counted = omega (arith, ints, old.counted, c.reply_to_end.ensures.count, c.requires.some) }
 
 pub returns-in_default-write_all-clause-write : goal.returns-in_default-write_all-clause-write
 returns-in_default-write_all-clause-write g c bytes rs h e =
@@ -46,6 +52,7 @@ invariant_of-self-2 g c =
       numbered = omega (arith, old.numbered, c.restart.ensures.size, c.requires.some);
       begun = (omega (arith, b.2.0, start_line), omega (arith, b.2.1, start_column));
       placed = (omega (arith, b.2.0, next_line), omega (arith, b.2.1, next_column));
+      counted = omega (arith, ints, old.counted, c.reply_to_end.ensures.count, c.requires.some);
     }
 
 pub returns-clause-performed : goal.returns-clause-performed

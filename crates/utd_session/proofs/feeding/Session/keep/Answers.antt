@@ -1,4 +1,5 @@
 use Rattle.std.proofs.Common.{◌++◌, sym, ap, subst, arith}
+use Rattle.std.proofs.lemmas.Int.{ints}
 use Rattle.point_core.specs.declared.fault.Place.{Place}
 use Rattle.utd_lexer.specs.Cutting.{Since}
 use Rattle.utd_session.specs.Unfinished.{IsUnfinished}
@@ -21,6 +22,7 @@ invariant_of-result c =
       numbered = omega (arith, old.numbered, c.in-Ok.ensures.size);
       begun = (omega (arith, old.begun.0, start_line), omega (arith, old.begun.1, start_column));
       placed = (omega (arith, old.placed.0, line, bound.0), omega (arith, old.placed.1, column, bound.1));
+      counted = omega (arith, ints, old.counted);
     }
 
 pub returns-clause-kept : goal.returns-clause-kept
