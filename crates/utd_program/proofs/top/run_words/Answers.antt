@@ -1,4 +1,6 @@
-use Rattle.std.proofs.Common.{ap}
+use Rattle.std.proofs.Common.{◌≡◌, ap}
+use Rattle.utd_words.specs.declared.words.Asked.TheVariants.{Dump}
+use Rattle.utd_words.specs.declared.words.Script.TheVariants.{Generated}
 use Rattle.utd_session.specs.Status.{number_of}
 use Rattle.utd_program.proofs.BackLemmas.{memory_no_end, may_no_end}
 use Rattle.utd_program.proofs.GeneratedLemmas.{may_run_not, may_dump_not, generates_not, dumps_no_generated, may_pay_not, generates_free}
@@ -37,3 +39,11 @@ returns-in-Err-clause-again g c of_input = may_no_end _ (g.S.Source.left c.args.
 
 pub returns-in-Err-clause-again_generated : goal.returns-in-Err-clause-again_generated
 returns-in-Err-clause-again_generated g c number generated at_end = absurd (memory_no_end (number_of c.without_memory.result.status) (ap number_of c.without_memory.ensures.status) at_end)
+
+pub returns-in-Ok-Some-clause-again_generated : goal.returns-in-Ok-Some-clause-again_generated
+returns-in-Ok-Some-clause-again_generated g c number e =
+    let told = c.in-Ok-Some.ensures.asked in
+    let found = c.in-Ok-Some.field-0-is in
+    let what = c.in-Ok-Some.what-is in
+    let same : c.in-Ok-Some.what ≡ Dump (Generated number) = cc in
+    c.run_asked.ensures.again_generated number same
