@@ -67,7 +67,7 @@ tree_cost prices around (using place heading commalist t) = tree_cost prices (in
 abbrev pub relvar_cost : Prices → PlainRelvar → ℕ
 relvar_cost prices (base value constraints) = 0
 relvar_cost prices (view t history) = tree_cost prices plainly t
-relvar_cost prices (log of side value) = 0
+relvar_cost prices (log of side last value) = 0
 
 abbrev pub priced : Prices → PlainRelvar → Priced
 priced prices r = (relvar_meaning (known_of prices) r, relvar_cost prices r)

@@ -63,7 +63,7 @@ bare_change : (c : Option Relation) (r : PlainRelvar) → IsChange c r → bare 
 bare_change None r h = refl
 bare_change (Some value) (base old constraints) h = bare-with_value value (base old constraints) h
 bare_change (Some value) (view t history) h = absurd h
-bare_change (Some value) (log of side w) h = absurd h
+bare_change (Some value) (log of side last w) h = absurd h
 
 pub bare_changed : (cs : Changes) (es : Entries) → AreChanges cs es → bare_all (changed cs es) ≡ bare_all es
 bare_changed [] es h = refl
@@ -75,7 +75,7 @@ bare_changed (c ∷ cs) (e ∷ es) h = ap₂ (λ (x : PlainRelvar) (z : Entries)
 pub is_change : (r : PlainRelvar) (value : Relation) (o : Option PlainRelvar) → o ≡ Some r → IsBase o → value.heading ≡ heading_if o → IsChange (Some value) r
 is_change (base old constraints) value o e b h = h ∙ ap heading_if e
 is_change (view t history) value o e b h = absurd (subst IsBase e b)
-is_change (log of side w) value o e b h = absurd (subst IsBase e b)
+is_change (log of side last w) value o e b h = absurd (subst IsBase e b)
 
 pub put_change : (es : Entries) (cs : Changes) (name : Name) (i : ℕ) (r : PlainRelvar) (value : Relation) → AreChanges cs es → IsFirstAt es name i r → IsChange (Some value) r
     → AreChanges (slice_set cs i (Some value)) es
@@ -88,7 +88,7 @@ twice : (c : Option Relation) (value : Relation) (r : PlainRelvar) → with_valu
 twice None value r = refl
 twice (Some old) value (base before constraints) = refl
 twice (Some old) value (view t history) = refl
-twice (Some old) value (log of side w) = refl
+twice (Some old) value (log of side last w) = refl
 
 apart_given : (es : Entries) (cs : Changes) (own name : Name) (value : Relation) → bytes_eq own name ≡ true → AllByRecursion (λ n. bytes_eq own n ≡ false) (names_in es)
     → changed cs es ≡ given (Some name) (Some value) (changed cs es)

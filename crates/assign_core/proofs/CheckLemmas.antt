@@ -22,7 +22,7 @@ named_base : (o : Option PlainRelvar) → IsBase o → heading_or_none (value_if
 named_base None h = absurd h
 named_base (Some (base value constraints)) h = refl
 named_base (Some (view t history)) h = absurd h
-named_base (Some (log of side w)) h = absurd h
+named_base (Some (log of side last w)) h = absurd h
 
 pub heading_named : (all : Entries) (n : Option Name) (other : Option Relation) → other ≡ value_at all n → NamesBase all n → heading_at all n ≡ heading_or_none other
 heading_named all None other e h = sym (ap heading_or_none e)
@@ -32,7 +32,7 @@ some_base : (c : Constraint) (o : Option PlainRelvar) → IsBase o → ((v : Rel
 some_base c None h f = absurd h
 some_base c (Some (base value constraints)) h f = f value
 some_base c (Some (view t history)) h f = absurd h
-some_base c (Some (log of side w)) h f = absurd h
+some_base c (Some (log of side last w)) h f = absurd h
 
 pub is_named : (all : Entries) (c : Constraint) (other : Option Relation) → other ≡ value_at all (names_relvar c) → NamesBase all (names_relvar c) → IsNamed c other
 is_named all (Key k) other e h = tt

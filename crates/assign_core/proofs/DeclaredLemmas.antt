@@ -133,7 +133,7 @@ same_of all other name rows n (c ∷ cs) same =
 same_in : (all other : Entries) (name : Name) (r : PlainRelvar) → ((c : Constraint) → rows_named all c ≡ rows_named other c) → first_in all name r ≡ first_in other name r
 same_in all other name (base value constraints) same = same_of all other name value.rows 1 constraints (each_same all other same constraints)
 same_in all other name (view t history) same = refl
-same_in all other name (log of side w) same = refl
+same_in all other name (log of side last w) same = refl
 
 same_among : (all other es : Entries) → ((c : Constraint) → rows_named all c ≡ rows_named other c) → first_among all es ≡ first_among other es
 same_among all other [] same = refl
@@ -162,7 +162,7 @@ none_of all name rows n (c ∷ cs) e =
 none_in : (all : Entries) (name : Name) (r : PlainRelvar) → rows_or_none (value_of r) ≡ [] → first_in all name r ≡ None
 none_in all name (base value constraints) e = none_of all name value.rows 1 constraints e
 none_in all name (view t history) e = refl
-none_in all name (log of side w) e = refl
+none_in all name (log of side last w) e = refl
 
 none_in_empty : (all more : Entries) → AreEmpty more → first_among all more ≡ None
 none_in_empty all [] h = refl

@@ -131,7 +131,7 @@ is_only a o r d l alone new there is = by (read_relvar r) refl is
           placed = is_placed a.changes.now a.relvars.now.list.entries o.at o cs d r l new there (q ∙ ap (λ (w : Relation). base w cs) same);
         }
     by (view t h) q f = absurd (cc)
-    by (log of side w) q f = absurd (cc)
+    by (log of side last w) q f = absurd (cc)
 
 pub only_found : (a : After) (result : Option Only) (i : ℕ) (n : Name) (r : Relvar) (d : Option Relation) → i < length a.changes.now → IsOnlyAt i a.changes.now
     → slice_get a.relvars.now.list.entries i ≡ Some (n, r) → IfSome result (λ o. HasBoth o i n (read_relvar r) (slice_index_or a.changes.now i d)) → IfSome result (IsOnly a)

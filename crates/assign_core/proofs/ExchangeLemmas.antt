@@ -173,7 +173,7 @@ value_back : (es : Entries) (i : ℕ) (value : Relation) → turned_at i (with_v
 value_back [] i value = refl
 value_back ((n, base old constraints) ∷ es) zero value = refl
 value_back ((n, view t history) ∷ es) zero value = refl
-value_back ((n, log of side w) ∷ es) zero value = refl
+value_back ((n, log of side last w) ∷ es) zero value = refl
 value_back (e ∷ es) (suc i) value = ap (λ (z : Entries). e ∷ z) (value_back es i value)
 
 pub taken_back : (cs : List Change) (es : Entries) → ArePrepared cs es → AreValues cs → exchanged_by (map (replaced es) cs) (exchanged_by cs es) ≡ es
@@ -189,7 +189,7 @@ so_value : (es : Entries) (i : ℕ) (value : Relation) → IsSoAt i (IsChange (S
 so_value [] i value h = absurd h
 so_value ((n, base old constraints) ∷ es) zero value h = sym h
 so_value ((n, view t history) ∷ es) zero value h = absurd h
-so_value ((n, log of side w) ∷ es) zero value h = absurd h
+so_value ((n, log of side last w) ∷ es) zero value h = absurd h
 so_value (e ∷ es) (suc i) value h = so_value es i value h
 
 pub prepared_back : (cs : List Change) (es : Entries) → ArePrepared cs es → AreValues cs → ArePrepared (map (replaced es) cs) (exchanged_by cs es)

@@ -34,7 +34,7 @@ newest_given old new name value e is = by (relvar_named new name) refl is
         let same : value ≡ v = cc in
         subst (λ (z : Relation). IsGiven old (Some name) (Some z)) (sym same) (is_given-keeps old new (sym e) (Some name) (Some v) (own-given new name v cs q))
     by (Some (view t h)) q f = absurd (cc)
-    by (Some (log of side w)) q f = absurd (cc)
+    by (Some (log of side last w)) q f = absurd (cc)
 
 -- what a source sees is what it is given: its own newest value, or nothing where there is none
 pub seen_newest : (old new : Entries) (name : Name) (value : Relation) → Some value ≡ value_if (relvar_named new name) → given (Some name) (Some value) old ≡ seen_by old new name

@@ -22,7 +22,7 @@ abbrev pub IsChange : Option Relation → PlainRelvar → Type 0
 IsChange None r = Unit {0}
 IsChange (Some value) (base old constraints) = value.heading ≡ old.heading
 IsChange (Some value) (view t history) = ⊥
-IsChange (Some value) (log of side w) = ⊥
+IsChange (Some value) (log of side last w) = ⊥
 
 abbrev pub AreChanges : Changes → Entries → Type 0
 AreChanges [] [] = Unit {0}
@@ -52,7 +52,7 @@ Tells (Err Memory) meant = Unit {0}
 abbrev pub value_or : Relation → PlainRelvar → Relation
 value_or other (base value constraints) = value
 value_or other (view t history) = other
-value_or other (log of side w) = other
+value_or other (log of side last w) = other
 
 -- ---- one place
 

@@ -20,7 +20,7 @@ pub record IsHashesOf (heading : Heading) (rows : List Row) (m : HashList) : Typ
 abbrev pub AreHashesIn : List HashList → PlainRelvar → Type 0
 AreHashesIn ms (base value constraints) = All (IsHashesOf value.heading value.rows) ms
 AreHashesIn ms (view t history) = Unit {0}
-AreHashesIn ms (log of side w) = Unit {0}
+AreHashesIn ms (log of side last w) = Unit {0}
 
 -- of the relvar at the place
 abbrev pub AreHashesAt : ℕ → List HashList → Entries → Type 0

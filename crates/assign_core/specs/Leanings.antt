@@ -23,7 +23,7 @@ is_ready_at r i = list_any (λ c. nat_eq (place_of c) i) r.changes.items
 abbrev pub is_view_of : List Name → PlainRelvar → Bool
 is_view_of names (base value constraints) = false
 is_view_of names (view t history) = names_any (is_one_of names) t
-is_view_of names (log of side w) = false
+is_view_of names (log of side last w) = false
 
 -- whether the relvar at the place has something ready, or is a view of affected ones
 abbrev pub is_affected : Ready → ℕ → List Name → PlainRelvar → Bool

@@ -113,7 +113,7 @@ module _ (some : Name → Bool) where
       → IsRelvar sizes (left some before) own r
   relvar-dropped sizes before own (base value constraints) other apart is = (is.0, all-dropped before own (base value constraints) constraints other apart is.1)
   relvar-dropped sizes before own (view t history) other apart is = (tree-left sizes some before t apart is.0, history-dropped before t history apart is.1)
-  relvar-dropped sizes before own (log of side value) other apart is = (is.0, log-dropped before of side value.heading apart is.1)
+  relvar-dropped sizes before own (log of side last value) other apart is = (is.0, log-dropped before of side value.heading apart is.1)
 
   named-not : (own : Name) (r : PlainRelvar) → some own ≡ false → (not (some own) && relvar_names_any some r) ≡ false → relvar_names_any some r ≡ false
   named-not own r other e = sym (ap (λ (b : Bool). not b && relvar_names_any some r) other) ∙ e

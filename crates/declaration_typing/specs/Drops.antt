@@ -19,7 +19,7 @@ abbrev pub is_in_history : Name → PlainRelvar → Bool
 is_in_history name (base value constraints) = false
 is_in_history name (view t None) = false
 is_in_history name (view t (Some names)) = bytes_eq name names.0 || bytes_eq name names.1
-is_in_history name (log of side value) = false
+is_in_history name (log of side last value) = false
 
 -- whether a history has the name as that of its since relvar or its during relvar
 abbrev pub is_of_history : Entries → Name → Bool

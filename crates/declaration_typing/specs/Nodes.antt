@@ -27,7 +27,7 @@ count known (using place h commalist t) = count known t + 1
 abbrev pub relvar_count : List (Name × ℕ) → PlainRelvar → ℕ
 relvar_count known (base value constraints) = 1
 relvar_count known (view t history) = count known t
-relvar_count known (log of side value) = 1
+relvar_count known (log of side last value) = 1
 
 abbrev pub nodes_of : Entries → Tree → ℕ
 nodes_of entries t = count (each_in relvar_count entries) t

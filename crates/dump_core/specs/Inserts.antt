@@ -75,7 +75,7 @@ parts_inserted types name value size = map (insert_script types name value.headi
 abbrev pub inserts : List OrdinalNames → Name → PlainRelvar → List (List ℕ)
 inserts types name (base value constraints) = parts_inserted types name value (rows_a_statement name constraints)
 inserts types name (view t history) = []
-inserts types name (log of side value) = []
+inserts types name (log of side last value) = []
 
 -- those of all base relvars, in the order of declaration
 abbrev pub rows_of_entries : List OrdinalNames → Entries → List (List ℕ)
@@ -90,7 +90,7 @@ rows_of_state state = rows_of_entries state.ordinals state.relvars
 abbrev pub HasRelation : PlainRelvar → Type 0
 HasRelation (base value constraints) = IsRelation value
 HasRelation (view t history) = Unit {0}
-HasRelation (log of side value) = Unit {0}
+HasRelation (log of side last value) = Unit {0}
 
 abbrev pub HaveRelations : Entries → Type 0
 HaveRelations [] = Unit {0}

@@ -24,7 +24,7 @@ use Rattle.dump_laws.proofs.NamingLaws.{IsView, tree_in}
 relvar-bare : (r : PlainRelvar) → without_rows r ≡ bare r
 relvar-bare (base value constraints) = refl
 relvar-bare (view t history) = refl
-relvar-bare (log o k w) = refl
+relvar-bare (log o k last w) = refl
 
 pub emptied-bare : (es : Entries) → map emptied es ≡ bare_all es
 emptied-bare [] = refl
@@ -34,14 +34,14 @@ pub early-emptied : (e : Name × PlainRelvar) → is_early (emptied e) ≡ is_ea
 early-emptied (name, base value constraints) = refl
 early-emptied (name, view t None) = refl
 early-emptied (name, view t (Some names)) = refl
-early-emptied (name, log o k w) = refl
+early-emptied (name, log o k last w) = refl
 
 late-as-it-is : (es : Entries) → map emptied (filter is_late es) ≡ filter is_late es
 late-as-it-is [] = refl
 late-as-it-is ((name, base value constraints) ∷ es) = late-as-it-is es
 late-as-it-is ((name, view t None) ∷ es) = ap (λ (l : Entries). (name, view t None) ∷ l) (late-as-it-is es)
 late-as-it-is ((name, view t (Some names)) ∷ es) = late-as-it-is es
-late-as-it-is ((name, log o k w) ∷ es) = ap (λ (l : Entries). (name, log o k w) ∷ l) (late-as-it-is es)
+late-as-it-is ((name, log o k last w) ∷ es) = ap (λ (l : Entries). (name, log o k last w) ∷ l) (late-as-it-is es)
 
 module _ (es fs : Entries) (same : bare_all fs ≡ bare_all es) where
   all-emptied : map emptied fs ≡ map emptied es
@@ -97,7 +97,7 @@ abbrev IsLogIf : Option PlainRelvar → Type 0
 IsLogIf None = ⊥
 IsLogIf (Some (base v c)) = ⊥
 IsLogIf (Some (view t h)) = ⊥
-IsLogIf (Some (log o k w)) = Unit {0}
+IsLogIf (Some (log o k last w)) = Unit {0}
 
 abbrev relvar_if : PlainRelvar → Option PlainRelvar → PlainRelvar
 relvar_if other None = other
@@ -118,11 +118,11 @@ like-bare (Some (base v c)) (Some (base u d)) e = (ap heading_if (sym e), ap con
 like-bare (Some (base v c)) (Some (view u g)) e = absurd (subst IsViewIf (sym e) tt)
 like-bare (Some (view t h)) (Some (base u d)) e = absurd (subst IsViewIf e tt)
 like-bare (Some (view t h)) (Some (view u g)) e = (((λ p. p), ap (tree_if t) (sym e) ∙ sym (tree-same t)), ap history_if (sym e))
-like-bare (Some (base v c)) (Some (log o k w)) e = absurd (subst IsLogIf (sym e) tt)
-like-bare (Some (view t h)) (Some (log o k w)) e = absurd (subst IsLogIf (sym e) tt)
-like-bare (Some (log o k w)) (Some (base u d)) e = absurd (subst IsLogIf e tt)
-like-bare (Some (log o k w)) (Some (view u g)) e = absurd (subst IsLogIf e tt)
-like-bare (Some (log o k w)) (Some (log p j v)) e = ap (relvar_if (log o k w)) (sym e)
+like-bare (Some (base v c)) (Some (log o k last w)) e = absurd (subst IsLogIf (sym e) tt)
+like-bare (Some (view t h)) (Some (log o k last w)) e = absurd (subst IsLogIf (sym e) tt)
+like-bare (Some (log o k last w)) (Some (base u d)) e = absurd (subst IsLogIf e tt)
+like-bare (Some (log o k last w)) (Some (view u g)) e = absurd (subst IsLogIf e tt)
+like-bare (Some (log o k last w)) (Some (log p j last v)) e = ap (relvar_if (log o k last w)) (sym e)
 
 pub alike-rows : (some : Name → Bool) (es fs : Entries) → bare_all fs ≡ bare_all es → Alike some es fs
 alike-rows some es fs same name none =

@@ -50,7 +50,7 @@ IsTypedSaid w (said_rule name t) = IsTypedTestFor w t
 view-typed : (sizes : List ℕ) (front back : Entries) (x : Name × PlainRelvar) (name : Name) (t : Tree) → IsRelvar sizes front x.0 x.1 → (name, view t None) ≡ emptied x
     → (es : Entries) → es ≡ front ++ back → IsTypedTree sizes (headings_of es) t
 view-typed sizes front back (own, base value cs) name t is e es whole = absurd (subst (λ (y : Name × PlainRelvar). IsView y.1) e tt)
-view-typed sizes front back (own, log o k w) name t is e es whole = absurd (subst (λ (y : Name × PlainRelvar). IsView y.1) e tt)
+view-typed sizes front back (own, log o k last w) name t is e es whole = absurd (subst (λ (y : Name × PlainRelvar). IsView y.1) e tt)
 view-typed sizes front back (own, view u history) name t is e es whole =
     let same : u ≡ t = ap (λ (y : Name × PlainRelvar). tree_in t y.1) (sym e) in
     subst (λ (l : Entries). IsTypedTree sizes (headings_of l) t) (sym whole)
@@ -96,7 +96,7 @@ apart-from some (e ∷ es) h = (h e (inl refl), apart-from some es (λ x i. h x 
 relvar-names : (some : Name → Bool) (sizes : List ℕ) (front : Entries) (own : Name) (r : PlainRelvar) → AreNew some front → IsRelvar sizes front own r → view_names some r ≡ false
 relvar-names some sizes front own (base value cs) new is = refl
 relvar-names some sizes front own (view t history) new is = typed-names some sizes (headings_of front) (new-clear some front new) t is.0
-relvar-names some sizes front own (log o k w) new is = refl
+relvar-names some sizes front own (log o k last w) new is = refl
 
 apart-new : (some : Name → Bool) (w : State) → IsWellMade w → AreNew some w.relvars → IsApart some w.relvars
 apart-new some w made new =
@@ -108,7 +108,7 @@ apart-new some w made new =
 view-unnamed : (some : Name → Bool) (r : PlainRelvar) → relvar_names_any some r ≡ false → view_names some r ≡ false
 view-unnamed some (base value cs) e = refl
 view-unnamed some (view t history) e = e
-view-unnamed some (log o k w) e = refl
+view-unnamed some (log o k last w) e = refl
 
 apart-left : (some : Name → Bool) (es : Entries) → relvars_use es some ≡ false → IsApart some es
 apart-left some es unused =

@@ -69,12 +69,12 @@ others-differ front back d differ =
 base-history : (r : PlainRelvar) (v : Relation) (cs : List Constraint) → without_rows r ≡ base v cs → history_if (Some r) ≡ None
 base-history (base value constraints) v cs e = refl
 base-history (view t history) v cs e = absurd (cc)
-base-history (log o k w) v cs e = absurd (cc)
+base-history (log o k last w) v cs e = absurd (cc)
 
 view-history : (r : PlainRelvar) (t : Tree) (o : Option (Name × Name)) → without_rows r ≡ view t o → history_if (Some r) ≡ o
 view-history (base value constraints) t o e = absurd (cc)
 view-history (view u p) t o e = let same : p ≡ o = cc in same
-view-history (log q k w) t o e = absurd (cc)
+view-history (log q k last w) t o e = absurd (cc)
 
 is-its : (x : Name × PlainRelvar) (n : Name) (t : Tree) (names : Name × Name) → without_rows x.1 ≡ view t (Some names) → (bytes_eq n names.0 || bytes_eq n names.1) ≡ true
     → is_in_history n x.1 ≡ true
@@ -83,7 +83,7 @@ is-its x n t names e one = by x.1 e
     by : (r : PlainRelvar) → without_rows r ≡ view t (Some names) → is_in_history n r ≡ true
     by (base value constraints) f = absurd (cc)
     by (view u None) f = absurd (cc)
-    by (log o k w) f = absurd (cc)
+    by (log o k last w) f = absurd (cc)
     by (view u (Some others)) f = let same : others ≡ names = cc in subst (λ (p : Name × Name). (bytes_eq n p.0 || bytes_eq n p.1) ≡ true) (sym same) one
 
 or-again : (a b c : Bool) → (a || (b || (c || false))) ≡ (c || (b || (a || false)))

@@ -77,9 +77,9 @@ same-early n m (base v c) (base u d) h = refl
 same-early n m (base v c) (view u g) h = absurd h
 same-early n m (view t k) (base u d) h = absurd h
 same-early n m (view t k) (view u g) h = ap (λ (o : Option (Name × Name)). is_early_relvar (view t o)) h.1 ∙ refl
-same-early n m (base v c) (log o i w) h = absurd h
-same-early n m (view t k) (log o i w) h = absurd h
-same-early n m (log o i w) y h = ap is_early_relvar h
+same-early n m (base v c) (log o i last w) h = absurd h
+same-early n m (view t k) (log o i last w) h = absurd h
+same-early n m (log o i last w) y h = ap is_early_relvar h
 
 -- ---- rows do not count
 
@@ -87,8 +87,8 @@ pub full-one : (x y : PlainRelvar) → IsLike (without_rows x) y → IsLike x y
 full-one (base v c) (base u d) h = h
 full-one (base v c) (view u g) h = absurd h
 full-one (view t k) y h = h
-full-one (base v c) (log o i w) h = absurd h
-full-one (log o i w) y h = h
+full-one (base v c) (log o i last w) h = absurd h
+full-one (log o i last w) y h = h
 
 pub like-full : (xs ys : Entries) → AreLikeEntries (map emptied xs) ys → AreLikeEntries xs ys
 like-full [] [] h = tt
@@ -100,8 +100,8 @@ bare-one : (x y : PlainRelvar) → IsLike x y → IsLike (without_rows x) y
 bare-one (base v c) (base u d) h = h
 bare-one (base v c) (view u g) h = absurd h
 bare-one (view t k) y h = h
-bare-one (base v c) (log o i w) h = absurd h
-bare-one (log o i w) y h = h
+bare-one (base v c) (log o i last w) h = absurd h
+bare-one (log o i last w) y h = h
 
 pub like-bare : (xs ys : Entries) → AreLikeEntries xs ys → AreLikeEntries (map emptied xs) ys
 like-bare [] [] h = tt
@@ -135,9 +135,9 @@ emptied-one (n, base v c) (m, base u k) same like bare = λ i. (same i, (sym bar
 emptied-one (n, base v c) (m, view u g) same like bare = absurd like
 emptied-one (n, view t h) (m, base u k) same like bare = absurd like
 emptied-one (n, view t h) (m, view u g) same like bare = (same, refl)
-emptied-one (n, base v c) (m, log o i w) same like bare = absurd like
-emptied-one (n, view t h) (m, log o i w) same like bare = absurd like
-emptied-one (n, log o i w) (m, y) same like bare = (same, ap (λ (r : PlainRelvar). is_base (m, r)) like)
+emptied-one (n, base v c) (m, log o i last w) same like bare = absurd like
+emptied-one (n, view t h) (m, log o i last w) same like bare = absurd like
+emptied-one (n, log o i last w) (m, y) same like bare = (same, ap (λ (r : PlainRelvar). is_base (m, r)) like)
 
 pub like-emptied : (xs ys : Entries) → AreLikeEntries xs ys → AllByRecursion IsBare ys → AreEmptied xs ys
 like-emptied [] [] h bare = tt
@@ -151,12 +151,12 @@ filled-like [] (y ∷ ys) h = absurd h
 filled-like (x ∷ xs) [] h = absurd h
 filled-like ((n, base v c) ∷ xs) (y ∷ ys) h = ((refl, (refl, refl)), filled-like xs ys h.1)
 filled-like ((n, view t k) ∷ xs) (y ∷ ys) h = (h.0, filled-like xs ys h.1)
-filled-like ((n, log o i w) ∷ xs) (y ∷ ys) h = (h.0, filled-like xs ys h.1)
+filled-like ((n, log o i last w) ∷ xs) (y ∷ ys) h = (h.0, filled-like xs ys h.1)
 
 rowless-one : (n : Name) (v : Relation) (c : List Constraint) (y : Name × PlainRelvar) → y.0 ≡ n → IsLike (base v c) y.1 → (n, bare (base v c)) ≡ bare_entry y
 rowless-one n v c (m, base u k) same like = λ i. (sym same i, base (record { heading = sym like.0 i; rows = [] }) (sym like.1 i))
 rowless-one n v c (m, view u g) same like = absurd like
-rowless-one n v c (m, log o i w) same like = absurd like
+rowless-one n v c (m, log o i last w) same like = absurd like
 
 pub filled-rowless : (xs ys : Entries) → AreLikeEntries xs ys → bare_all (filled xs ys) ≡ bare_all ys
 filled-rowless [] [] h = refl
@@ -164,4 +164,4 @@ filled-rowless [] (y ∷ ys) h = absurd h
 filled-rowless (x ∷ xs) [] h = absurd h
 filled-rowless ((n, base v c) ∷ xs) (y ∷ ys) h = λ i. rowless-one n v c y h.0.0 h.0.1 i ∷ filled-rowless xs ys h.1 i
 filled-rowless ((n, view t k) ∷ xs) (y ∷ ys) h = λ i. bare_entry y ∷ filled-rowless xs ys h.1 i
-filled-rowless ((n, log o k w) ∷ xs) (y ∷ ys) h = λ i. bare_entry y ∷ filled-rowless xs ys h.1 i
+filled-rowless ((n, log o k last w) ∷ xs) (y ∷ ys) h = λ i. bare_entry y ∷ filled-rowless xs ys h.1 i

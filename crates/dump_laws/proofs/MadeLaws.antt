@@ -88,7 +88,7 @@ pub late-same : (x : Name × PlainRelvar) → is_early x ≡ false → emptied x
 late-same (name, base value constraints) e = absurd (true≢false e)
 late-same (name, view t None) e = refl
 late-same (name, view t (Some names)) e = refl
-late-same (name, log o k w) e = refl
+late-same (name, log o k last w) e = refl
 
 module _ (w : State) (ds : List Said) (made : IsListedAs w ds) where
   -- ---- what is said stands in the state

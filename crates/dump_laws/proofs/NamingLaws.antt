@@ -62,23 +62,23 @@ named-front front back name e = by (relvar_named front name) refl
 abbrev pub IsView : PlainRelvar → Type 0
 IsView (base value constraints) = ⊥
 IsView (view t history) = Unit {0}
-IsView (log o k w) = ⊥
+IsView (log o k last w) = ⊥
 
 abbrev pub IsBaseRelvar : PlainRelvar → Type 0
 IsBaseRelvar (base value constraints) = Unit {0}
 IsBaseRelvar (view t history) = ⊥
-IsBaseRelvar (log o k w) = ⊥
+IsBaseRelvar (log o k last w) = ⊥
 
 abbrev pub constraints_in : PlainRelvar → List Constraint
 constraints_in (base value constraints) = constraints
 constraints_in (view t history) = []
-constraints_in (log o k w) = []
+constraints_in (log o k last w) = []
 
 -- the expression of a view, and another of a base relvar
 abbrev pub tree_in : Tree → PlainRelvar → Tree
 tree_in other (base value constraints) = other
 tree_in other (view t history) = t
-tree_in other (log o k w) = other
+tree_in other (log o k last w) = other
 
 module _ (some : Name → Bool) where
   -- none of some stands for a relvar or view
@@ -139,11 +139,11 @@ module _ (some : Name → Bool) where
       subst (λ (n : Name). list_any (references_other some n) typed ≡ false) same
       (subst (λ (l : List Constraint). list_any (references_other some own) l ≡ false) all (constraints-new es own (base value cs) cs new is.1))
   base-new sizes es (own, view t history) name heading typed new is e = absurd (subst (λ (y : Name × PlainRelvar). IsView y.1) (sym e) tt)
-  base-new sizes es (own, log o k w) name heading typed new is e = absurd (subst (λ (y : Name × PlainRelvar). IsBaseRelvar y.1) e tt)
+  base-new sizes es (own, log o k last w) name heading typed new is e = absurd (subst (λ (y : Name × PlainRelvar). IsBaseRelvar y.1) e tt)
 
   view-new : (sizes : _) (es : Entries) (x : Name × PlainRelvar) (name : Name) (t : Tree) → AreNew es → IsRelvar sizes es x.0 x.1 → (name, view t None) ≡ emptied x → names_any some t ≡ false
   view-new sizes es (own, base value cs) name t new is e = absurd (subst (λ (y : Name × PlainRelvar). IsView y.1) e tt)
-  view-new sizes es (own, log o k w) name t new is e = absurd (subst (λ (y : Name × PlainRelvar). IsView y.1) e tt)
+  view-new sizes es (own, log o k last w) name t new is e = absurd (subst (λ (y : Name × PlainRelvar). IsView y.1) e tt)
   view-new sizes es (own, view u history) name t new is e =
       let same : u ≡ t = ap (λ (y : Name × PlainRelvar). tree_in t y.1) (sym e) in
       subst (λ (v : Tree). names_any some v ≡ false) same (typed-names some sizes (headings_of es) (new-clear es new) u is.0)
@@ -155,11 +155,11 @@ module _ (some : Name → Bool) where
       let unused : list_any (references_any some) typed ≡ false = subst (λ (l : List Constraint). list_any (references_any some) l ≡ false) all none in
       said-unused some (said_base name heading typed) (or_from (list_any (references_any some) typed) false unused refl) refl
   base-left (own, view t history) name heading typed none e = absurd (subst (λ (y : Name × PlainRelvar). IsView y.1) (sym e) tt)
-  base-left (own, log o k w) name heading typed none e = absurd (subst (λ (y : Name × PlainRelvar). IsBaseRelvar y.1) e tt)
+  base-left (own, log o k last w) name heading typed none e = absurd (subst (λ (y : Name × PlainRelvar). IsBaseRelvar y.1) e tt)
 
   view-left : (x : Name × PlainRelvar) (name : Name) (t : Tree) → relvar_names_any some x.1 ≡ false → (name, view t None) ≡ emptied x → names_any some t ≡ false
   view-left (own, base value cs) name t none e = absurd (subst (λ (y : Name × PlainRelvar). IsView y.1) e tt)
-  view-left (own, log o k w) name t none e = absurd (subst (λ (y : Name × PlainRelvar). IsView y.1) e tt)
+  view-left (own, log o k last w) name t none e = absurd (subst (λ (y : Name × PlainRelvar). IsView y.1) e tt)
   view-left (own, view u history) name t none e =
       let same : u ≡ t = ap (λ (y : Name × PlainRelvar). tree_in t y.1) (sym e) in
       subst (λ (v : Tree). names_any some v ≡ false) same none

@@ -116,7 +116,7 @@ pub record IsOfBase (r : PlainRelvar) (c : List Constraint) : Type 0 where
 of-base : (r : PlainRelvar) (u : Relation) (c : List Constraint) → without_rows r ≡ base u c → IsOfBase r c
 of-base (base v d) u c e = let same : d ≡ c = cc in record { value = v; is = ap (base v) same }
 of-base (view t history) u c e = absurd (cc)
-of-base (log o k w) u c e = absurd (cc)
+of-base (log o k last w) u c e = absurd (cc)
 
 -- where an entry stands: those before it are these
 pub record IsPlaced (w : State) (p : Name × PlainRelvar → Bool) (f : Name × PlainRelvar → Name × PlainRelvar) (front : Entries) (name : Name) (r : PlainRelvar) : Type 0 where

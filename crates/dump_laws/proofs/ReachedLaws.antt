@@ -129,8 +129,8 @@ module _ (w : State) (ds : List Said) (made : IsMadeOf w ds) (well : IsWellMade 
             subst (λ (o : Option PlainRelvar). ValueIf (Some (base v c)) o) (sym found) refl
         by (Some (view t history)) None e f = tt
         by (Some (view t history)) (Some y) e f = tt
-        by (Some (log o k w)) None e f = tt
-        by (Some (log o k w)) (Some y) e f = tt
+        by (Some (log o k last w)) None e f = tt
+        by (Some (log o k last w)) (Some y) e f = tt
 
     pub held-here : All (λ (x : Name × Test). holds_in w.relvars x.1 ≡ true) w.rules → (name : Name) (t : Test) → In (said_rule name t) ds → test_names_any (lacks r) t ≡ false → (f : Place → Place)
         → holds_in r.relvars (moved_test f t) ≡ true

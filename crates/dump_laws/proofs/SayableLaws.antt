@@ -218,7 +218,7 @@ entry-sayable e (said_rule name t) held i = absurd i
 with-rows : (e : Name × PlainRelvar) → Sayable (emptied e) → Sayable e
 with-rows (name, base value constraints) held = held
 with-rows (name, view t history) held = held
-with-rows (name, log o k w) held = held
+with-rows (name, log o k last w) held = held
 
 -- what a state is made of, its limits aside
 pub listed-of : (w : State) (ds : List Said) → IsMadeOf w ds → IsListedAs w ds

@@ -77,7 +77,7 @@ module _ (w : State) (ds : List Said) (made : IsMadeOf w ds) (well : IsWellMade 
     where
       from : (x : Name × PlainRelvar) → In x w.relvars → view t None ≡ (emptied x).1 → IsTypedFor w t
       from (n, base v c) j e = absurd (cc)
-      from (n, log o k w) j e = absurd (cc)
+      from (n, log o k last w) j e = absurd (cc)
       from (n, view u history) j e =
           let same : t ≡ u = cc in
           let here = entry-typed (n, view u history) j in

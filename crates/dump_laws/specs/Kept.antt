@@ -73,7 +73,7 @@ abbrev pub is_early_relvar : PlainRelvar → Bool
 is_early_relvar (base value constraints) = true
 is_early_relvar (view t None) = false
 is_early_relvar (view t (Some names)) = true
-is_early_relvar (log o k w) = false
+is_early_relvar (log o k last w) = false
 
 abbrev pub is_early : Name × PlainRelvar → Bool
 is_early e = is_early_relvar e.1

@@ -36,7 +36,7 @@ IsSayableType o = IsSayable o.name × All IsSayable o.values
 abbrev pub IsSayableRelvar : Name → PlainRelvar → Type 0
 IsSayableRelvar name (base value constraints) = IsSayable name × AreSayableIn value.heading
 IsSayableRelvar name (view t history) = IsSayable name
-IsSayableRelvar name (log o k w) = IsSayable name
+IsSayableRelvar name (log o k last w) = IsSayable name
 
 pub record HasSayableNames (w : State) : Type 0 where
   pub ordinals : All IsSayableType w.ordinals

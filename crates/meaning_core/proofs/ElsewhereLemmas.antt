@@ -1,4 +1,5 @@
 -- What an expression or a test means turns only on what it names, itself and through views.
+--     names-alike, test-names-alike      whether one of two kinds of names is named
 --     left      the entries that are none of some names
 --     IsApart      each view that is none of them names none of them
 --     meaning-elsewhere, truth-elsewhere      the law: the meaning is that among the entries that are left
@@ -33,6 +34,32 @@ then-same m n f e = λ i. then_give (e i) f
 both-same : {X Y Z : Type 0} (m n : OrFault X) (p q : OrFault Y) (f : X → Y → OrFault Z) → m ≡ n → p ≡ q → both m p f ≡ both n q f
 both-same m n p q f e d = λ i. both (e i) (d i) f
 
+-- ---- names
+
+-- whether an expression names one of these, where it names none of some others
+pub names-alike : (some p q : Name → Bool) → ((name : Name) → some name ≡ false → p name ≡ q name) → (t : Tree) → names_any some t ≡ false → names_any p t ≡ names_any q t
+names-alike some p q same (named place h name) none = same name none
+names-alike some p q same (literal place h tuples) none = refl
+names-alike some p q same (infix_of place h word l r) none =
+    let parts = or_parts (names_any some l) (names_any some r) none in
+    λ i. names-alike some p q same l parts.0 i || names-alike some p q same r parts.1 i
+names-alike some p q same (project place h kept t) none = names-alike some p q same t none
+names-alike some p q same (rename place h names t) none = names-alike some p q same t none
+names-alike some p q same (restrict place h c t) none = names-alike some p q same t none
+names-alike some p q same (extend place h sets t) none = names-alike some p q same t none
+names-alike some p q same (summarize place h by aggregates t) none = names-alike some p q same t none
+names-alike some p q same (pack place h commalist t) none = names-alike some p q same t none
+names-alike some p q same (unpack place h commalist t) none = names-alike some p q same t none
+names-alike some p q same (using place h commalist t) none = names-alike some p q same t none
+
+pub test-names-alike : (some p q : Name → Bool) → ((name : Name) → some name ≡ false → p name ≡ q name) → (t : Test) → test_names_any some t ≡ false
+    → test_names_any p t ≡ test_names_any q t
+test-names-alike some p q same (relate place word commalist l r) none =
+    let parts = or_parts (names_any some l) (names_any some r) none in
+    λ i. names-alike some p q same l parts.0 i || names-alike some p q same r parts.1 i
+test-names-alike some p q same (is_empty place t) none = names-alike some p q same t none
+test-names-alike some p q same (is_not_empty place t) none = names-alike some p q same t none
+
 -- ---- the entries that are left
 
 module _ (some : Name → Bool) where
@@ -62,7 +89,7 @@ module _ (some : Name → Bool) where
         ]
 
     -- another name stands for the same among them
-    found-left : (other : A) (ks : List (Name × A)) (name : Name) → some name ≡ false → found other ks name ≡ found other (left ks) name
+    pub found-left : (other : A) (ks : List (Name × A)) (name : Name) → some name ≡ false → found other ks name ≡ found other (left ks) name
     found-left other [] name none = refl
     found-left other (k ∷ ks) name none = by-test (some k.0) refl (found-left other ks name none)
       where
@@ -116,7 +143,7 @@ module _ (some : Name → Bool) where
   abbrev pub view_names : PlainRelvar → Bool
   view_names (base value constraints) = false
   view_names (view t history) = names_any some t
-  view_names (log of side value) = false
+  view_names (log of side last value) = false
 
   abbrev pub IsApart : Entries → Type 0
   IsApart [] = Unit {0}
@@ -125,30 +152,31 @@ module _ (some : Name → Bool) where
   relvar-same : (known : Known) (r : PlainRelvar) → view_names r ≡ false → relvar_meaning known r ≡ relvar_meaning (left known) r
   relvar-same known (base value constraints) none = refl
   relvar-same known (view t history) none = meaning-agrees known (left known) (λ name q. found-left (Ok []) known name q) plainly t none
-  relvar-same known (log of side value) none = refl
+  relvar-same known (log of side last value) none = refl
 
-  -- an entry with what it means
-  abbrev meant : Known → Name × PlainRelvar → Name × RowsMeant
-  meant known e = (e.0, relvar_meaning known e.1)
+  module _ {A : Type 0} (of : List (Name × A) → PlainRelvar → A) (same : (known : List (Name × A)) (r : PlainRelvar) → view_names r ≡ false → of known r ≡ of (left known) r) where
+    -- an entry with what its name stands for
+    abbrev told : List (Name × A) → Name × PlainRelvar → Name × A
+    told known e = (e.0, of known e.1)
 
-  each-left : (known : Known) (es : Entries) → IsApart es → left (each_after relvar_meaning known es) ≡ each_after relvar_meaning (left known) (left es)
-  each-left known [] apart = refl
-  each-left known (e ∷ es) apart = by-test (some e.0) refl (each-left (known ++ meant known e ∷ []) es apart.1)
-    where
-      by-test : (b : Bool) → some e.0 ≡ b → left (each_after relvar_meaning (known ++ meant known e ∷ []) es) ≡ each_after relvar_meaning (left (known ++ meant known e ∷ [])) (left es)
-          → left (each_after relvar_meaning known (e ∷ es)) ≡ each_after relvar_meaning (left known) (left (e ∷ es))
-      by-test true q more =
-          let same : left (known ++ meant known e ∷ []) ≡ left known =
-          left-append known (meant known e ∷ []) ∙ (ap (λ (l : Known). left known ++ l) (left-gone (meant known e) [] q) ∙ append-nil (left known)) in
-          more ∙ (ap (λ (k : Known). each_after relvar_meaning k (left es)) same ∙ sym (ap (each_after relvar_meaning (left known)) (left-gone e es q)))
-      by-test false q more =
-          let same : left (known ++ meant known e ∷ []) ≡ left known ++ meant (left known) e ∷ [] =
-          left-append known (meant known e ∷ [])
-          ∙ (ap (λ (l : Known). left known ++ l) (left-kept (meant known e) [] q) ∙ ap (λ (m : RowsMeant). left known ++ (e.0, m) ∷ []) (relvar-same known e.1 (apart.0 q))) in
-          more ∙ (ap (λ (k : Known). each_after relvar_meaning k (left es)) same ∙ sym (ap (each_after relvar_meaning (left known)) (left-kept e es q)))
+    pub each-left : (known : List (Name × A)) (es : Entries) → IsApart es → left (each_after of known es) ≡ each_after of (left known) (left es)
+    each-left known [] apart = refl
+    each-left known (e ∷ es) apart = by-test (some e.0) refl (each-left (known ++ told known e ∷ []) es apart.1)
+      where
+        by-test : (b : Bool) → some e.0 ≡ b → left (each_after of (known ++ told known e ∷ []) es) ≡ each_after of (left (known ++ told known e ∷ [])) (left es)
+            → left (each_after of known (e ∷ es)) ≡ each_after of (left known) (left (e ∷ es))
+        by-test true q more =
+            let stays : left (known ++ told known e ∷ []) ≡ left known =
+            left-append known (told known e ∷ []) ∙ (ap (λ (l : List (Name × A)). left known ++ l) (left-gone (told known e) [] q) ∙ append-nil (left known)) in
+            more ∙ (ap (λ (k : List (Name × A)). each_after of k (left es)) stays ∙ sym (ap (each_after of (left known)) (left-gone e es q)))
+        by-test false q more =
+            let comes : left (known ++ told known e ∷ []) ≡ left known ++ told (left known) e ∷ [] =
+            left-append known (told known e ∷ [])
+            ∙ (ap (λ (l : List (Name × A)). left known ++ l) (left-kept (told known e) [] q) ∙ ap (λ (a : A). left known ++ (e.0, a) ∷ []) (same known e.1 (apart.0 q))) in
+            more ∙ (ap (λ (k : List (Name × A)). each_after of k (left es)) comes ∙ sym (ap (each_after of (left known)) (left-kept e es q)))
 
   agree-left : (es : Entries) → IsApart es → AgreeElsewhere (known_in es) (known_in (left es))
-  agree-left es apart name none = found-left (Ok []) (known_in es) name none ∙ ap (λ (k : Known). found (Ok []) k name) (each-left [] es apart)
+  agree-left es apart name none = found-left (Ok []) (known_in es) name none ∙ ap (λ (k : Known). found (Ok []) k name) (each-left relvar_meaning relvar-same [] es apart)
 
   pub meaning-elsewhere : (es : Entries) (t : Tree) → IsApart es → names_any some t ≡ false → meaning_in es t ≡ meaning_in (left es) t
   meaning-elsewhere es t apart none = meaning-agrees (known_in es) (known_in (left es)) (agree-left es apart) plainly t none
@@ -253,9 +281,9 @@ module _ (some : Name → Bool) where
   relvar-names : (sizes : List ℕ) (before : Entries) (own : Name) (r : PlainRelvar) → IsClear (headings_of before) → IsRelvar sizes before own r → view_names r ≡ false
   relvar-names sizes before own (base value constraints) clear is = refl
   relvar-names sizes before own (view t history) clear is = typed-names sizes (headings_of before) clear t is.0
-  relvar-names sizes before own (log of side value) clear is = refl
+  relvar-names sizes before own (log of side last value) clear is = refl
 
-  apart-left : (sizes : List ℕ) (es before : Entries) → IsClear (headings_of before) → AreRelvars sizes before (left es) → IsApart es
+  pub apart-left : (sizes : List ℕ) (es before : Entries) → IsClear (headings_of before) → AreRelvars sizes before (left es) → IsApart es
   apart-left sizes [] before clear all = tt
   apart-left sizes (e ∷ es) before clear all = by-test (some e.0) refl (apart-left sizes es)
     where
@@ -277,7 +305,7 @@ truth-dropped names s t made is = truth-left (is_one_of names) (sizes_of s.ordin
 -- ---- more entries behind
 
 module _ {A : Type 0} where
-  abbrev has : List (Name × A) → Name → Bool
+  abbrev pub has : List (Name × A) → Name → Bool
   has ks name = list_any (λ k. bytes_eq k.0 name) ks
 
   has-more : (ks more : List (Name × A)) (name : Name) → has ks name ≡ true → has (ks ++ more) name ≡ true
@@ -305,21 +333,23 @@ module _ {A : Type 0} where
       by-test true f g = refl
       by-test false f g = f g
 
-each-append : (known : Known) (es more : Entries) → each_after relvar_meaning known (es ++ more) ≡ each_after relvar_meaning (each_after relvar_meaning known es) more
-each-append known [] more = refl
-each-append known (e ∷ es) more = each-append (known ++ (e.0, relvar_meaning known e.1) ∷ []) es more
+  module _ (of : List (Name × A) → PlainRelvar → A) (other : A) where
+    pub each-append : (known : List (Name × A)) (es more : Entries) → each_after of known (es ++ more) ≡ each_after of (each_after of known es) more
+    each-append known [] more = refl
+    each-append known (e ∷ es) more = each-append (known ++ (e.0, of known e.1) ∷ []) es more
 
-each-more : (known : Known) (more : Entries) (name : Name) → has known name ≡ true → found (Ok []) (each_after relvar_meaning known more) name ≡ found (Ok []) known name
-each-more known [] name h = refl
-each-more known (e ∷ more) name h =
-    let own : Name × RowsMeant = (e.0, relvar_meaning known e.1) in
-    each-more (known ++ own ∷ []) more name (has-more known (own ∷ []) name h) ∙ found-more (Ok []) known (own ∷ []) name h
+    pub each-more : (known : List (Name × A)) (more : Entries) (name : Name) → has known name ≡ true → found other (each_after of known more) name ≡ found other known name
+    each-more known [] name h = refl
+    each-more known (e ∷ more) name h =
+        let own : Name × A = (e.0, of known e.1) in
+        each-more (known ++ own ∷ []) more name (has-more known (own ∷ []) name h) ∙ found-more other known (own ∷ []) name h
 
-has-each : (known : Known) (es : Entries) (name : Name) → (has known name ≡ true) ⊎ (has es name ≡ true) → has (each_after relvar_meaning known es) name ≡ true
-has-each known [] name h = elim h [ inl e ↦ e | inr e ↦ absurd (true≢false (sym e)) ]
-has-each known (e ∷ es) name h =
-    let own : Name × RowsMeant = (e.0, relvar_meaning known e.1) in
-    has-each (known ++ own ∷ []) es name (elim h [
+has-each : {A : Type 0} (of : List (Name × A) → PlainRelvar → A) (known : List (Name × A)) (es : Entries) (name : Name) → (has known name ≡ true) ⊎ (has es name ≡ true)
+    → has (each_after of known es) name ≡ true
+has-each of known [] name h = elim h [ inl e ↦ e | inr e ↦ absurd (true≢false (sym e)) ]
+has-each {A = A} of known (e ∷ es) name h =
+    let own : Name × A = (e.0, of known e.1) in
+    has-each of (known ++ own ∷ []) es name (elim h [
       | inl q ↦ inl (has-more known (own ∷ []) name q)
       | inr q ↦ elim (or_cases (bytes_eq e.0 name) (has es name) q) [
         | inl p ↦ inl (has-last known own name p)
@@ -327,7 +357,14 @@ has-each known (e ∷ es) name h =
       ]
     ])
 
-has-heading : (es : Entries) (name : Name) → is_none (heading_named (headings_of es) name) ≡ false → has es name ≡ true
+-- a name that stands among the entries stands for the same among more
+pub found-appended : {A : Type 0} (of : List (Name × A) → PlainRelvar → A) (other : A) (es more : Entries) (name : Name) → has es name ≡ true
+    → found other (each_after of [] (es ++ more)) name ≡ found other (each_after of [] es) name
+found-appended {A = A} of other es more name h =
+    ap (λ (k : List (Name × A)). found other k name) (each-append of other [] es more)
+    ∙ each-more of other (each_after of [] es) more name (has-each of [] es name (inr h))
+
+pub has-heading : (es : Entries) (name : Name) → is_none (heading_named (headings_of es) name) ≡ false → has es name ≡ true
 has-heading [] name h = absurd (true≢false h)
 has-heading (e ∷ es) name h = by-test (bytes_eq e.0 name) (has-heading es name) h
   where
@@ -345,7 +382,5 @@ pub truth-appended : (sizes : List ℕ) (es more : Entries) (t : Test) → IsTyp
 truth-appended sizes es more t is =
     let unknown : Name → Bool = λ name. is_none (heading_named (headings_of es) name) in
     truth-agrees unknown (known_in (es ++ more)) (known_in es)
-    (λ name q.
-    ap (λ (k : Known). found (Ok []) k name) (each-append [] es more)
-    ∙ each-more (known_in es) more name (has-each [] es name (inr (has-heading es name q))))
+    (λ name q. found-appended relvar_meaning (Ok []) es more name (has-heading es name q))
     t (typed-test-names unknown sizes (headings_of es) (λ name one. none-is (heading_named (headings_of es) name) one) t is)

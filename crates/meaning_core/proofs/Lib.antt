@@ -4,6 +4,7 @@ pub mod EntryLemmas
 pub mod GroupFits
 pub mod IntervalLemmas
 pub mod LimitLemmas
+pub mod LogLemmas
 pub mod LookupLemmas
 pub mod MadeLemmas
 pub mod RowlessLemmas

@@ -1,9 +1,11 @@
 -- Whether a state is well made does not turn on the rows of its relvars.
---     bare, bare_all      relvars without their rows
+--     bare, bare_all      relvars without their rows, and logs that tell nothing
+--     over-keeps      the same names stand for logs and views over logs
 --     bare-keeps      a state stays well made where its relvars differ in their rows alone
 --     heading-keeps, is_base-keeps      the same is looked up in states that differ so
 --     is_given-keeps      and the same may be given in place of a value
 use Rattle.std.proofs.Common.{◌≡◌, ℕ, Bool, true, false, List, [], ◌∷◌, ◌++◌, map, cond, refl, sym, ap, ap₂, ◌∙◌, subst, IsTrue, Option, Some, None, option_map}
+use Rattle.std.specs.Prelude.{pos}
 use Rattle.std.specs.List.{All, IsDistinct}
 use Rattle.std.specs.Str.{bytes_eq}
 use Rattle.std.proofs.lemmas.List.{map-append}
@@ -15,8 +17,10 @@ use Rattle.value_core.specs.Values.{Name, Heading, Relation}
 use Rattle.tree_core.specs.Relvars.{PlainRelvar, base, view, Entries, State, relvar_named, relvar_heading, heading_if, constraints_if, rule_among, log}
 use Rattle.log_times.specs.Turns.{IsLogHeading, without}
 use Rattle.tree_core.specs.Trees.{Tree, named}
+use Rattle.tree_core.specs.Uses.{test_names_any}
+use Rattle.meaning_core.specs.Logs.{is_over_log, over_log}
 use Rattle.meaning_core.specs.Histories.{joined_history, last_point, type_at, name_at}
-use Rattle.meaning_core.specs.Names.{with_value}
+use Rattle.meaning_core.specs.Names.{found, each_after, with_value}
 use Rattle.meaning_core.specs.Typing.{Headings, is_declared, IsTypedTree, IsTypedTest}
 use Rattle.meaning_core.specs.WellMade.{sizes_of, headings_of, IsBase, FitsHeadings, FitsNamed, IsConstraint, IsOfRule, IsHistory, IsRelvar, AreRelvars, IsWellMade, IsGiven, IsLogOf}
 
@@ -25,7 +29,7 @@ use Rattle.meaning_core.specs.WellMade.{sizes_of, headings_of, IsBase, FitsHeadi
 abbrev pub bare : PlainRelvar → PlainRelvar
 bare (base value constraints) = base (record { heading = value.heading; rows = [] }) constraints
 bare (view t history) = view t history
-bare (log of side value) = log of side value
+bare (log of side last value) = log of side (pos 0) (record { heading = value.heading; rows = [] })
 
 abbrev pub bare_entry : Name × PlainRelvar → Name × PlainRelvar
 bare_entry r = (r.0, bare r.1)
@@ -33,12 +37,29 @@ bare_entry r = (r.0, bare r.1)
 abbrev pub bare_all : Entries → Entries
 bare_all entries = map bare_entry entries
 
+-- ---- what turns on a log
+
+over-one : (known : List (Name × Bool)) (r : PlainRelvar) → is_over_log known (bare r) ≡ is_over_log known r
+over-one known (base value constraints) = refl
+over-one known (view t history) = refl
+over-one known (log of side last value) = refl
+
+over-bare : (known : List (Name × Bool)) (entries : Entries) → each_after is_over_log known (bare_all entries) ≡ each_after is_over_log known entries
+over-bare known [] = refl
+over-bare known (r ∷ rest) =
+    ap (λ (b : Bool). each_after is_over_log (known ++ (r.0, b) ∷ []) (bare_all rest)) (over-one known r.1) ∙ over-bare (known ++ (r.0, is_over_log known r.1) ∷ []) rest
+
+-- the same names stand for logs and views over logs
+pub over-keeps : (entries old : Entries) → bare_all entries ≡ bare_all old → over_log entries ≡ over_log old
+over-keeps entries old e =
+    ap (λ (ks : List (Name × Bool)) name. found false ks name) (sym (over-bare [] entries) ∙ (ap (each_after is_over_log []) e ∙ over-bare [] old))
+
 -- ---- what is looked up in them
 
 pub heading-bare : (r : PlainRelvar) → relvar_heading (bare r) ≡ relvar_heading r
 heading-bare (base value constraints) = refl
 heading-bare (view t history) = refl
-heading-bare (log of side value) = refl
+heading-bare (log of side last value) = refl
 
 pub headings-bare : (entries : Entries) → headings_of (bare_all entries) ≡ headings_of entries
 headings-bare [] = refl
@@ -65,13 +86,13 @@ constraints_if-bare : (o : Option PlainRelvar) → constraints_if (option_map ba
 constraints_if-bare None = refl
 constraints_if-bare (Some (base value constraints)) = refl
 constraints_if-bare (Some (view t history)) = refl
-constraints_if-bare (Some (log of side value)) = refl
+constraints_if-bare (Some (log of side last value)) = refl
 
 IsBase-bare : (o : Option PlainRelvar) → IsBase (option_map bare o) ≡ IsBase o
 IsBase-bare None = refl
 IsBase-bare (Some (base value constraints)) = refl
 IsBase-bare (Some (view t history)) = refl
-IsBase-bare (Some (log of side value)) = refl
+IsBase-bare (Some (log of side last value)) = refl
 
 pub heading_named-bare : (entries : Entries) (name : Name) → heading_if (relvar_named (bare_all entries) name) ≡ heading_if (relvar_named entries name)
 heading_named-bare entries name = ap heading_if (named-bare entries name) ∙ heading_if-bare (relvar_named entries name)
@@ -123,7 +144,7 @@ IsRelvar-bare : (sizes : List ℕ) (before : Entries) (own : Name) (r : PlainRel
 IsRelvar-bare sizes before own (base value constraints) =
     λ i. IsTrue (is_declared sizes value.heading) × All (λ c. IsConstraint-bare before own (base value constraints) c i) constraints
 IsRelvar-bare sizes before own (view t history) = λ i. IsTypedTree sizes (headings-bare before i) t × IsHistory-bare before t history i
-IsRelvar-bare sizes before own (log of side value) = λ i. IsTrue (is_declared sizes value.heading) × IsLogOf-bare before of side value.heading i
+IsRelvar-bare sizes before own (log of side last value) = λ i. IsTrue (is_declared sizes value.heading) × IsLogOf-bare before of side value.heading i
 
 AreRelvars-bare : (sizes : List ℕ) (before entries : Entries) → AreRelvars sizes (bare_all before) (bare_all entries) ≡ AreRelvars sizes before entries
 AreRelvars-bare sizes before [] = refl
@@ -155,6 +176,7 @@ bare-keeps s entries e h =
       relvars = subst (λ (T : Type 0). T) same h.relvars;
       few_rules = h.few_rules;
       rules = subst (λ (hs : Headings). All (λ k. IsTypedTest (sizes_of s.ordinals) hs k.1) s.rules) headings h.rules;
+      apart = subst (λ (over : Name → Bool). All (λ k. test_names_any over k.1 ≡ false) s.rules) (sym (over-keeps entries s.relvars e)) h.apart;
     }
 
 -- ---- another value of a base relvar
@@ -162,7 +184,7 @@ bare-keeps s entries e h =
 pub bare-with_value : (value : Relation) (r : PlainRelvar) → value.heading ≡ relvar_heading r → bare (with_value value r) ≡ bare r
 bare-with_value value (base old constraints) e = ap (λ (h : Heading). base (record { heading = h; rows = [] }) constraints) e
 bare-with_value value (view t history) e = refl
-bare-with_value value (log of side old) e = refl
+bare-with_value value (log of side last old) e = refl
 
 -- what is given in one of two states that differ in their rows alone is given in the other
 pub is_given-keeps : (entries old : Entries) → bare_all entries ≡ bare_all old → (with : Option Name) (value : Option Relation) → IsGiven old with value → IsGiven entries with value

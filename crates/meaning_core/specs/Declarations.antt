@@ -3,16 +3,19 @@
 --     with_declaration      the state with what is declared: a relvar begins with no rows
 --     without_group      the state without a relvar or view; the view of a history takes its two relvars along
 --     with_rule, without_rule      the state with one database constraint more, or without one
+--     with_log      the state with a log that begins with the statement that declares it
 --     counted      the state in which one statement more is accepted
 use Rattle.std.specs.Prelude.{pos, ◌+ℤ◌, not, List, [], ◌∷◌, ◌++◌, filter, Option, Some, None}
 use Rattle.std.specs.Str.{bytes_eq}
 use Rattle.value_core.specs.declared.constraint.Constraint.{Constraint}
 use Rattle.value_core.specs.Values.{Name, Heading}
 use Rattle.tree_core.specs.declared.declaration.Declaration.{Declaration}
+use Rattle.tree_core.specs.declared.declaration.LogData.{LogData}
 use Rattle.tree_core.specs.declared.declaration.Declaration.TheVariants as variants
-use Rattle.tree_core.specs.Relvars.{State, PlainRelvar, base, view, Entries, relvar_named, history_if}
+use Rattle.tree_core.specs.Relvars.{State, PlainRelvar, base, view, Entries, relvar_named, heading_if, history_if}
 use Rattle.tree_core.specs.Trees.{Tree, Test, read_tree}
 use Rattle.tree_core.specs.Uses.{is_one_of}
+use Rattle.meaning_core.specs.Logs.{new_log, turned_logs}
 
 pub data PlainDeclaration : Type 0 where
   ordinal_type : Name → List Name → PlainDeclaration
@@ -33,6 +36,10 @@ abbrev pub with_declaration : State → PlainDeclaration → State
 with_declaration s (ordinal_type name values) = record s { ordinals = s.ordinals ++ record { name = name; values = values } ∷ [] }
 with_declaration s (base_relvar name heading constraints) = with_relvar s name (base (record { heading = heading; rows = [] }) constraints)
 with_declaration s (view_relvar name t history) = with_relvar s name (view t history)
+
+-- the state with a log that tells nothing yet
+abbrev pub with_log : State → LogData → State
+with_log s d = with_relvar s d.name (new_log (heading_if (relvar_named s.relvars d.of)) s.accepted d)
 
 -- ---- what is dropped with a name
 
@@ -62,6 +69,6 @@ without_rule name s = record s { rules = filter (λ r. not (bytes_eq r.0 name)) 
 
 -- ---- accepted statements
 
--- the state after a statement that is accepted
+-- the state after a statement that is accepted: its logs tell what their relvars have then
 abbrev pub counted : State → State
-counted s = record s { accepted = s.accepted +ℤ pos 1 }
+counted s = record s { relvars = turned_logs s.relvars; accepted = s.accepted +ℤ pos 1 }

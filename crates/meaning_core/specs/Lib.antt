@@ -1,6 +1,7 @@
 pub mod Declarations
 pub mod Endings
 pub mod Histories
+pub mod Logs
 pub mod Meanings
 pub mod Names
 pub mod Places

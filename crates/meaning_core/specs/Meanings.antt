@@ -126,7 +126,7 @@ meaning known around (using place heading commalist t) = meaning known (in_using
 abbrev pub relvar_meaning : Known → PlainRelvar → RowsMeant
 relvar_meaning known (base value constraints) = Ok value.rows
 relvar_meaning known (view t history) = meaning known plainly t
-relvar_meaning known (log of side value) = Ok value.rows
+relvar_meaning known (log of side last value) = Ok value.rows
 
 -- the meanings of all relvars and views, each view's from those before it
 abbrev pub known_in : Entries → Known

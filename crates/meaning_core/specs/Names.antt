@@ -28,7 +28,7 @@ module _ {A : Type 0} where
 abbrev pub with_value : Relation → PlainRelvar → PlainRelvar
 with_value value (base old constraints) = base value constraints
 with_value value (view t history) = view t history
-with_value value (log of side old) = log of side old
+with_value value (log of side last old) = log of side last old
 
 -- what an entry is, where the named relvar has the value, if both are given
 abbrev pub given_relvar : Option Name → Option Relation → Name → PlainRelvar → PlainRelvar

@@ -1,5 +1,5 @@
 -- Well made states: what declarations keep. And what is typed for a state.
-use Rattle.std.specs.Prelude.{◌≡◌, ℕ, ◌<◌, ◌≤◌, List, [], ◌∷◌, ◌++◌, map, length, nat_eq, Option, Some, None, IsTrue}
+use Rattle.std.specs.Prelude.{◌≡◌, ℕ, ◌<◌, ◌≤◌, false, List, [], ◌∷◌, ◌++◌, map, length, nat_eq, Option, Some, None, IsTrue}
 use Rattle.std.specs.List.{list_all, All, IsDistinct}
 use Rattle.std.specs.Str.{bytes_eq}
 use Rattle.point_core.specs.declared.fault.Place.{Place}
@@ -16,7 +16,9 @@ use Rattle.relation_core.specs.Parts.{kind_at}
 use Rattle.log_times.specs.Turns.{IsLogHeading, without}
 use Rattle.tree_core.specs.Relvars.{PlainRelvar, base, view, Entries, State, relvar_named, relvar_heading, heading_if, constraints_if, rule_among, log}
 use Rattle.tree_core.specs.Trees.{Tree, Test, named}
+use Rattle.tree_core.specs.Uses.{test_names_any}
 use Rattle.meaning_core.specs.Histories.{joined_history, last_point, type_at, name_at}
+use Rattle.meaning_core.specs.Logs.{over_log}
 use Rattle.meaning_core.specs.Typing.{Headings, IsList, is_declared, IsTypedTree, IsTypedTest}
 
 -- how many values each ordinal type has
@@ -79,7 +81,7 @@ abbrev pub IsBase : Option PlainRelvar → Type 0
 IsBase None = ⊥
 IsBase (Some (base value constraints)) = Unit {0}
 IsBase (Some (view t history)) = ⊥
-IsBase (Some (log of side value)) = ⊥
+IsBase (Some (log of side last value)) = ⊥
 
 -- the named relvar is a base relvar, whose heading the constraint fits too
 abbrev pub FitsNamed : Entries → Heading → Name → Constraint → Type 0
@@ -124,7 +126,7 @@ abbrev pub IsRelvar : List ℕ → Entries → Name → PlainRelvar → Type 0
 IsRelvar sizes before own (base value constraints) =
     IsTrue (is_declared sizes value.heading) × All (IsConstraint before own (base value constraints)) constraints
 IsRelvar sizes before own (view t history) = IsTypedTree sizes (headings_of before) t × IsHistory before t history
-IsRelvar sizes before own (log of side value) = IsTrue (is_declared sizes value.heading) × IsLogOf before of side value.heading
+IsRelvar sizes before own (log of side last value) = IsTrue (is_declared sizes value.heading) × IsLogOf before of side value.heading
 
 abbrev pub AreRelvars : List ℕ → Entries → Entries → Type 0
 AreRelvars sizes before [] = Unit {0}
@@ -140,7 +142,7 @@ IsTypedTestFor s t = IsTypedTest (sizes_of s.ordinals) (headings_of s.relvars) t
 
 -- ---- well made states
 
--- a well made state: each database constraint is typed for it
+-- a well made state: each database constraint is typed for it, and names no log, itself or through views
 pub record IsWellMade (s : State) : Type 0 where
   pub few : length s.ordinals ≤ most_ordinal_types
   pub ordinals : All IsOrdinalType s.ordinals
@@ -148,6 +150,7 @@ pub record IsWellMade (s : State) : Type 0 where
   pub relvars : AreRelvars (sizes_of s.ordinals) [] s.relvars
   pub few_rules : length s.rules ≤ most_rules
   pub rules : All (λ r. IsTypedTestFor s r.1) s.rules
+  pub apart : All (λ r. test_names_any (over_log s.relvars) r.1 ≡ false) s.rules
 
 -- a name of a base relvar and a relation of its heading, both or neither
 abbrev pub IsGiven : Entries → Option Name → Option Relation → Type 0

@@ -38,7 +38,7 @@ none-test-named (is_not_empty place t) = none-named t
 none-view : (x : PlainRelvar) → view_names (λ name. false) x ≡ false
 none-view (base value constraints) = refl
 none-view (view t history) = none-named t
-none-view (log of side value) = refl
+none-view (log of side last value) = refl
 
 pub none-apart : (es : Entries) → IsApart (λ name. false) es
 none-apart [] = tt
@@ -64,7 +64,7 @@ module _ (some more : Name → Bool) (fewer : (name : Name) → some name ≡ fa
   pub view-fewer : (x : PlainRelvar) → view_names some x ≡ false → view_names more x ≡ false
   view-fewer (base value constraints) none = refl
   view-fewer (view t history) none = names-fewer t none
-  view-fewer (log of side value) none = refl
+  view-fewer (log of side last value) none = refl
 
 -- the entries before a relvar or view are among all
 declared-from : (sizes : List ℕ) (es before rest : Entries) → es ≡ before ++ rest → AreRelvars sizes before rest → IsApart (λ name. not (has_entry es name)) rest

@@ -51,7 +51,7 @@ module _ (some more : Name → Bool) where
   pub view-or : (x : PlainRelvar) → view_names some x ≡ false → view_names more x ≡ false → view_names (λ name. some name || more name) x ≡ false
   view-or (base value constraints) p q = refl
   view-or (view t history) p q = names-or t p q
-  view-or (log of side value) p q = refl
+  view-or (log of side last value) p q = refl
 
 abbrev pub has_none : Entries → Name → Bool
 has_none es name = not (has_entry es name)
@@ -73,7 +73,7 @@ module _ (es : Entries) (sizes : List ℕ) where
   pub relvar-has : (own : Name) (x : PlainRelvar) → IsRelvar sizes es own x → view_names (has_none es) x ≡ false
   relvar-has own (base value constraints) is = refl
   relvar-has own (view t history) is = tree-has t is.0
-  relvar-has own (log of side value) is = refl
+  relvar-has own (log of side last value) is = refl
 
 pub unknown-not : (some : Name → Bool) (es : Entries) (name : Name) → unknown some es name ≡ false → (some name ≡ false) × (has_entry es name ≡ true)
 unknown-not some es name e = let parts = or_parts (some name) (not (has_entry es name)) e in (parts.0, not-false (has_entry es name) parts.1)
@@ -83,8 +83,8 @@ pub like-names : (some : Name → Bool) (x y : PlainRelvar) → IsLike x y → v
 like-names some (base v c) y like none = refl
 like-names some (view t h) (base u d) like none = absurd like
 like-names some (view t h) (view u g) like none = sym (names-moved like.0.0 some t) ∙ (ap (names_any some) (sym like.0.1) ∙ none)
-like-names some (view t h) (log o i w) like none = absurd like
-like-names some (log o i w) y like none = refl
+like-names some (view t h) (log o i last w) like none = absurd like
+like-names some (log o i last w) y like none = refl
 
 apart-at : (some : Name → Bool) (front back : Entries) (e : Name × PlainRelvar) → IsApart some (front ++ e ∷ back) → some e.0 ≡ false → view_names some e.1 ≡ false
 apart-at some [] back e apart q = apart.0 q

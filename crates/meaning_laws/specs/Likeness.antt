@@ -19,17 +19,17 @@ IsLike (base v c) (base u d) = (u.heading ≡ v.heading) × (d ≡ c)
 IsLike (base v c) (view u g) = ⊥
 IsLike (view t h) (base u d) = ⊥
 IsLike (view t h) (view u g) = ((f : Place → Place) × (u ≡ moved_tree f t)) × (g ≡ h)
-IsLike (base v c) (log o i w) = ⊥
-IsLike (view t h) (log o i w) = ⊥
-IsLike (log o i w) y = y ≡ log o i w
+IsLike (base v c) (log o i last w) = ⊥
+IsLike (view t h) (log o i last w) = ⊥
+IsLike (log o i last w) y = y ≡ log o i last w
 
 -- a base relvar has the same value there
 abbrev pub HasValue : PlainRelvar → PlainRelvar → Type 0
 HasValue (base v c) (base u d) = u ≡ v
 HasValue (base v c) (view u g) = ⊥
 HasValue (view t h) r = Unit {0}
-HasValue (base v c) (log o i w) = ⊥
-HasValue (log o i w) r = Unit {0}
+HasValue (base v c) (log o i last w) = ⊥
+HasValue (log o i last w) r = Unit {0}
 
 -- ---- where a name stands for one
 
@@ -48,7 +48,7 @@ abbrev pub ValueIf : Option PlainRelvar → Option PlainRelvar → Type 0
 ValueIf None o = Unit {0}
 ValueIf (Some (base v c)) None = ⊥
 ValueIf (Some (view t h)) None = Unit {0}
-ValueIf (Some (log o i w)) None = Unit {0}
+ValueIf (Some (log o i last w)) None = Unit {0}
 ValueIf (Some x) (Some y) = HasValue x y
 
 -- ---- states

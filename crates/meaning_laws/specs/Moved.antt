@@ -67,7 +67,7 @@ module _ (f : Place → Place) where
   abbrev pub moved_relvar : PlainRelvar → PlainRelvar
   moved_relvar (base value constraints) = base value constraints
   moved_relvar (view t history) = view (moved_tree t) history
-  moved_relvar (log of side value) = log of side value
+  moved_relvar (log of side last value) = log of side last value
 
   abbrev pub moved_entry : Name × PlainRelvar → Name × PlainRelvar
   moved_entry e = (e.0, moved_relvar e.1)

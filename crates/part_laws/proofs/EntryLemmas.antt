@@ -22,7 +22,7 @@ pub base-of : (o : Option PlainRelvar) → IsBase o → (v : Relation) × (c : L
 base-of None h = absurd h
 base-of (Some (base v c)) h = (v, c, refl)
 base-of (Some (view t history)) h = absurd h
-base-of (Some (log o k w)) h = absurd h
+base-of (Some (log o k last w)) h = absurd h
 
 -- ---- more entries
 
@@ -62,7 +62,7 @@ all-bases : (P : Name → Type 0) (es : Entries) → AllByRecursion P (names_in 
 all-bases P [] h = tt
 all-bases P ((n, base v c) ∷ es) h = (h.0, all-bases P es h.1)
 all-bases P ((n, view t g) ∷ es) h = all-bases P es h.1
-all-bases P ((n, log o k w) ∷ es) h = all-bases P es h.1
+all-bases P ((n, log o k last w) ∷ es) h = all-bases P es h.1
 
 absent-base : (x name : Name) (es : Entries) → bytes_eq x name ≡ true → AllByRecursion (λ y. bytes_eq x y ≡ false) (names_in es) → relvar_named (bases es) name ≡ None
 absent-base x name es e h = absent x name (bases es) e (all-bases (λ y. bytes_eq x y ≡ false) es h)
@@ -80,9 +80,9 @@ named-filtered ((n, view t g) ∷ es) name v c e =
       | true ↦ λ h. let never : IsBase (Some (view t g)) = subst IsBase (sym h) tt in absurd never
       | false ↦ named-filtered es name v c
     ] e
-named-filtered ((n, log o k w) ∷ es) name v c e =
-    elim (bytes_eq n name) as (λ b. cond b (Some (log o k w)) (relvar_named es name) ≡ Some (base v c) → relvar_named (bases es) name ≡ Some (base v c)) [
-      | true ↦ λ h. let never : IsBase (Some (log o k w)) = subst IsBase (sym h) tt in absurd never
+named-filtered ((n, log o k last w) ∷ es) name v c e =
+    elim (bytes_eq n name) as (λ b. cond b (Some (log o k last w)) (relvar_named es name) ≡ Some (base v c) → relvar_named (bases es) name ≡ Some (base v c)) [
+      | true ↦ λ h. let never : IsBase (Some (log o k last w)) = subst IsBase (sym h) tt in absurd never
       | false ↦ named-filtered es name v c
     ] e
 
@@ -100,8 +100,8 @@ named-unfiltered ((n, view t g) ∷ es) name x d e =
       | true ↦ λ q. let none = absent-base n name es q d.0 in let never : ⊥ = cc in absurd never
       | false ↦ λ q. named-unfiltered es name x d.1 e
     ] refl
-named-unfiltered ((n, log o k w) ∷ es) name x d e =
-    elim (bytes_eq n name) as (λ b. bytes_eq n name ≡ b → cond b (Some (log o k w)) (relvar_named es name) ≡ Some x) [
+named-unfiltered ((n, log o k last w) ∷ es) name x d e =
+    elim (bytes_eq n name) as (λ b. bytes_eq n name ≡ b → cond b (Some (log o k last w)) (relvar_named es name) ≡ Some x) [
       | true ↦ λ q. let none = absent-base n name es q d.0 in let never : ⊥ = cc in absurd never
       | false ↦ λ q. named-unfiltered es name x d.1 e
     ] refl
@@ -120,8 +120,8 @@ value-filtered ((n, view t g) ∷ es) name d =
       | true ↦ λ q. sym (ap value_if (absent-base n name es q d.0))
       | false ↦ λ q. value-filtered es name d.1
     ] refl
-value-filtered ((n, log o k w) ∷ es) name d =
-    elim (bytes_eq n name) as (λ b. bytes_eq n name ≡ b → value_if (cond b (Some (log o k w)) (relvar_named es name)) ≡ value_if (relvar_named (bases es) name)) [
+value-filtered ((n, log o k last w) ∷ es) name d =
+    elim (bytes_eq n name) as (λ b. bytes_eq n name ≡ b → value_if (cond b (Some (log o k last w)) (relvar_named es name)) ≡ value_if (relvar_named (bases es) name)) [
       | true ↦ λ q. sym (ap value_if (absent-base n name es q d.0))
       | false ↦ λ q. value-filtered es name d.1
     ] refl

@@ -78,11 +78,11 @@ module _ (types : List OrdinalNames) (es : Entries) (is : IsLoadable es) (Q : En
       subst (λ (l : Entries). Q l (rows_of_entries types rest)) (sym (loaded-rowless es (length front) 0 name (view t history) refl stands))
       (subst (λ k. Q (loaded k 0 es) (rows_of_entries types rest)) (length_more front (name, view t history))
       (from-front (front ++ (name, view t history) ∷ []) rest (e ∙ sym (in_turn front ((name, view t history) ∷ []) rest))))
-  from-front front ((name, log o k w) ∷ rest) e =
-      let stands = subst (λ (l : Entries). IsAt l (length front) (name, log o k w)) (sym e) (at-front front rest (name, log o k w)) in
-      subst (λ (l : Entries). Q l (rows_of_entries types rest)) (sym (loaded-rowless es (length front) 0 name (log o k w) refl stands))
-      (subst (λ k. Q (loaded k 0 es) (rows_of_entries types rest)) (length_more front (name, log o k w))
-      (from-front (front ++ (name, log o k w) ∷ []) rest (e ∙ sym (in_turn front ((name, log o k w) ∷ []) rest))))
+  from-front front ((name, log o k last w) ∷ rest) e =
+      let stands = subst (λ (l : Entries). IsAt l (length front) (name, log o k last w)) (sym e) (at-front front rest (name, log o k last w)) in
+      subst (λ (l : Entries). Q l (rows_of_entries types rest)) (sym (loaded-rowless es (length front) 0 name (log o k last w) refl stands))
+      (subst (λ k. Q (loaded k 0 es) (rows_of_entries types rest)) (length_more front (name, log o k last w))
+      (from-front (front ++ (name, log o k last w) ∷ []) rest (e ∙ sym (in_turn front ((name, log o k last w) ∷ []) rest))))
 
   pub inserts-through : Q (loaded 0 0 es) (rows_of_entries types es)
   inserts-through = from-front [] es refl
@@ -93,7 +93,7 @@ inserts-filtered : (types : List OrdinalNames) (es : Entries) → rows_of_entrie
 inserts-filtered types [] = refl
 inserts-filtered types ((name, base v c) ∷ es) = ap (λ (l : List (List ℕ)). inserts types name (base v c) ++ l) (inserts-filtered types es)
 inserts-filtered types ((name, view t history) ∷ es) = inserts-filtered types es
-inserts-filtered types ((name, log o k w) ∷ es) = inserts-filtered types es
+inserts-filtered types ((name, log o k last w) ∷ es) = inserts-filtered types es
 
 pub inserts-bases : (types : List OrdinalNames) (es fs : Entries) → filter is_base es ≡ filter is_base fs → rows_of_entries types es ≡ rows_of_entries types fs
 inserts-bases types es fs e = inserts-filtered types es ∙ (ap (rows_of_entries types) e ∙ sym (inserts-filtered types fs))

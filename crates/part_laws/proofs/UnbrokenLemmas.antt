@@ -162,7 +162,7 @@ emptied-unbroken : (all es : Entries) → first_among all (map emptied es) ≡ N
 emptied-unbroken all [] = refl
 emptied-unbroken all ((name, base v cs) ∷ es) = none_of_two (first_of all name [] 1 cs) (first_among all (map emptied es)) (none-holds all [] [] name 1 cs) (emptied-unbroken all es)
 emptied-unbroken all ((name, view t history) ∷ es) = emptied-unbroken all es
-emptied-unbroken all ((name, log o k w) ∷ es) = emptied-unbroken all es
+emptied-unbroken all ((name, log o k last w) ∷ es) = emptied-unbroken all es
 
 module _ (all whole : Entries) where
   -- a relvar that is whole
@@ -201,7 +201,7 @@ module _ (all whole : Entries) where
       none_of_two (first_of all name (take n v.rows) 1 cs) (first_among all (map emptied es))
       (here-part n front before (map emptied es) es name v cs is h.0 relations.0 may parts.0) (emptied-unbroken all es)
   among-loaded zero n front before ((name, view t history) ∷ es) is h relations may e = emptied-unbroken all es
-  among-loaded zero n front before ((name, log o k w) ∷ es) is h relations may e = emptied-unbroken all es
+  among-loaded zero n front before ((name, log o k last w) ∷ es) is h relations may e = emptied-unbroken all es
   among-loaded (suc i) n front before ((name, base v cs) ∷ es) is h relations may e =
       let parts = neither (first_of whole name v.rows 1 cs) (first_among whole es) e in
       none_of_two (first_of all name v.rows 1 cs) (first_among all (loaded i n es)) (here-whole front before (loaded i n es) es name v cs is h.0 parts.0)
@@ -211,10 +211,10 @@ module _ (all whole : Entries) where
       let next = front-more all whole front before (loaded i n es) es (name, view t history) is in
       let same = subst (λ (bs : Entries). IsFront all whole (front ++ (name, view t history) ∷ []) bs (loaded i n es) es) (append-nil before) next in
       among-loaded i n (front ++ (name, view t history) ∷ []) before es same h relations.1 may e
-  among-loaded (suc i) n front before ((name, log o k w) ∷ es) is h relations may e =
-      let next = front-more all whole front before (loaded i n es) es (name, log o k w) is in
-      let same = subst (λ (bs : Entries). IsFront all whole (front ++ (name, log o k w) ∷ []) bs (loaded i n es) es) (append-nil before) next in
-      among-loaded i n (front ++ (name, log o k w) ∷ []) before es same h relations.1 may e
+  among-loaded (suc i) n front before ((name, log o k last w) ∷ es) is h relations may e =
+      let next = front-more all whole front before (loaded i n es) es (name, log o k last w) is in
+      let same = subst (λ (bs : Entries). IsFront all whole (front ++ (name, log o k last w) ∷ []) bs (loaded i n es) es) (append-nil before) next in
+      among-loaded i n (front ++ (name, log o k last w) ∷ []) before es same h relations.1 may e
 
 pub loaded-unbroken-where : (es : Entries) (i n : ℕ) → IsDistinct bytes_eq (names_in es) → AreConstrained [] es → HaveRelations es → IsWholeIfOwn es i n
     → first_broken es ≡ None → first_broken (loaded i n es) ≡ None

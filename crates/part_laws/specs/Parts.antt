@@ -28,12 +28,12 @@ first_of_value n value = record { heading = value.heading; rows = take n value.r
 abbrev pub with_first : ℕ → PlainRelvar → PlainRelvar
 with_first n (base value constraints) = base (first_of_value n value) constraints
 with_first n (view t history) = view t history
-with_first n (log o k w) = log o k w
+with_first n (log o k last w) = log o k last w
 
 abbrev pub without_rows : PlainRelvar → PlainRelvar
 without_rows (base value constraints) = base (record { heading = value.heading; rows = [] }) constraints
 without_rows (view t history) = view t history
-without_rows (log o k w) = log o k w
+without_rows (log o k last w) = log o k last w
 
 abbrev pub emptied : Name × PlainRelvar → Name × PlainRelvar
 emptied e = (e.0, without_rows e.1)
@@ -49,7 +49,7 @@ loaded (suc i) n (e ∷ es) = e ∷ loaded i n es
 abbrev pub is_base : Name × PlainRelvar → Bool
 is_base (name, base value constraints) = true
 is_base (name, view t history) = false
-is_base (name, log o k w) = false
+is_base (name, log o k last w) = false
 
 -- the entry stands at the place
 abbrev pub IsAt : Entries → ℕ → Name × PlainRelvar → Type 0
@@ -63,7 +63,7 @@ IsAt (d ∷ es) (suc i) e = IsAt es i e
 abbrev pub MayHave : Name → ℕ → PlainRelvar → Type 0
 MayHave name n (base value constraints) = IsTrue (list_any (references name) constraints) → (n ≡ 0) ⊎ (length value.rows ≤ n)
 MayHave name n (view t history) = Unit {0}
-MayHave name n (log o k w) = Unit {0}
+MayHave name n (log o k last w) = Unit {0}
 
 -- the one at the place may have so many
 abbrev pub IsWholeIfOwn : Entries → ℕ → ℕ → Type 0
@@ -79,7 +79,7 @@ AreConstrained before [] = Unit {0}
 AreConstrained before ((name, base value constraints) ∷ es) =
     All (IsConstraint before name (base value constraints)) constraints × AreConstrained (before ++ (name, base value constraints) ∷ []) es
 AreConstrained before ((name, view t history) ∷ es) = AreConstrained before es
-AreConstrained before ((name, log o k w) ∷ es) = AreConstrained before es
+AreConstrained before ((name, log o k last w) ∷ es) = AreConstrained before es
 
 -- ---- databases
 
@@ -96,7 +96,7 @@ pub record IsLoadable (es : Entries) : Type 0 where
 abbrev pub IsEmptied : Name × PlainRelvar → Name × PlainRelvar → Type 0
 IsEmptied (name, base value constraints) d = d ≡ (name, base (record { heading = value.heading; rows = [] }) constraints)
 IsEmptied (name, view t history) d = (d.0 ≡ name) × (is_base d ≡ false)
-IsEmptied (name, log o k w) d = (d.0 ≡ name) × (is_base d ≡ false)
+IsEmptied (name, log o k last w) d = (d.0 ≡ name) × (is_base d ≡ false)
 
 abbrev pub AreEmptied : Entries → Entries → Type 0
 AreEmptied [] [] = Unit {0}
@@ -110,4 +110,4 @@ filled [] ds = []
 filled (e ∷ es) [] = []
 filled ((name, base value constraints) ∷ es) (d ∷ ds) = (name, base value constraints) ∷ filled es ds
 filled ((name, view t history) ∷ es) (d ∷ ds) = d ∷ filled es ds
-filled ((name, log o k w) ∷ es) (d ∷ ds) = d ∷ filled es ds
+filled ((name, log o k last w) ∷ es) (d ∷ ds) = d ∷ filled es ds

@@ -128,7 +128,7 @@ module _ (s : State) (made : IsWellMade s) where
       → All (IsTypedAssignment s) (ended_in s.relvars place at (rule_if s.relvars (history_if o)) (history_if o) e c)
   of-target place at e c name None f is = absurd is
   of-target place at e c name (Some (base value list)) f is = absurd is
-  of-target place at e c name (Some (log of side value)) f is = absurd is
+  of-target place at e c name (Some (log of side last value)) f is = absurd is
   of-target place at e c name (Some (view t None)) f is = absurd is
   of-target place at e c name (Some (view t (Some names))) f is =
       let m = made-in sizes [] s.relvars name (view t (Some names)) made.relvars f in

@@ -89,7 +89,7 @@ module _ (s : State) (made : IsWellMade s) where
       → Points (relvar_named s.relvars rule.since) o rule
   points name rule None e is r = absurd is
   points name rule (Some (view t history)) e is r = absurd is
-  points name rule (Some (log of side value)) e is r = absurd is
+  points name rule (Some (log of side last value)) e is r = absurd is
   points name rule (Some (base value list)) e is r =
       let m = made-in (sizes_of s.ordinals) [] s.relvars name (base value list) made.relvars e in
       let fits = rule-in (IsConstraint m.prefix m.own (base value list)) list rule m.made.1 r in
@@ -125,7 +125,7 @@ module _ (s : State) (made : IsWellMade s) where
   of-relvar name None e = tt
   of-relvar name (Some (base value list)) e = tt
   of-relvar name (Some (view t None)) e = tt
-  of-relvar name (Some (log of side value)) e = tt
+  of-relvar name (Some (log of side last value)) e = tt
   of-relvar name (Some (view t (Some names))) e = of-view names t (made-in (sizes_of s.ordinals) [] s.relvars name (view t (Some names)) made.relvars e)
 
   pub joinable : (name : Name) → AreJoinable s.relvars (history_of s.relvars name)

@@ -17,11 +17,11 @@ use Rattle.tree_core.specs.declared.relvar.Relvars.{Relvars}
 use Rattle.tree_core.specs.declared.test.RelTest.{RelTest}
 
 -- a base relvar, or a view; a history's view with its since relvar and its during relvar; the log of a base relvar, with the place of the
--- attribute that tells the statements, and the log's value
+-- attribute that tells the statements, the number of the last of them, and the log's value
 pub data PlainRelvar : Type 0 where
   base : Relation → List Constraint → PlainRelvar
   view : Tree → Option (Name × Name) → PlainRelvar
-  log : Name → ℕ → Relation → PlainRelvar
+  log : Name → ℕ → ℤ → Relation → PlainRelvar
 
 -- the entries of a state, in order of declaration
 abbrev pub Entries : Type 0
@@ -42,7 +42,7 @@ pub record State : Type 0 where
 abbrev pub read_relvar : Relvar → PlainRelvar
 read_relvar (Base value constraints) = base value constraints
 read_relvar (View tree history) = view (read_tree tree) history
-read_relvar (Log of kept) = log of kept.side (log_relation kept)
+read_relvar (Log of kept) = log of kept.side kept.last (log_relation kept)
 
 abbrev pub read_entry : Name × Relvar → Name × PlainRelvar
 read_entry e = (e.0, read_relvar e.1)
@@ -62,7 +62,7 @@ relvar_named (r ∷ rest) name = if bytes_eq r.0 name then Some r.1 else relvar_
 abbrev pub relvar_heading : PlainRelvar → Heading
 relvar_heading (base value constraints) = value.heading
 relvar_heading (view t history) = heading_of t
-relvar_heading (log of side value) = value.heading
+relvar_heading (log of side last value) = value.heading
 
 abbrev pub heading_if : Option PlainRelvar → Heading
 heading_if None = []
@@ -72,7 +72,7 @@ abbrev pub constraints_if : Option PlainRelvar → List Constraint
 constraints_if None = []
 constraints_if (Some (base value constraints)) = constraints
 constraints_if (Some (view t history)) = []
-constraints_if (Some (log of side value)) = []
+constraints_if (Some (log of side last value)) = []
 
 -- the rule of a history that stands first among constraints
 abbrev pub rule_among : List Constraint → Option HistoryRule
@@ -85,4 +85,4 @@ abbrev pub history_if : Option PlainRelvar → Option (Name × Name)
 history_if None = None
 history_if (Some (base value constraints)) = None
 history_if (Some (view t history)) = history
-history_if (Some (log of side value)) = None
+history_if (Some (log of side last value)) = None

@@ -48,4 +48,4 @@ module _ (some : Name → Bool) where
   abbrev pub relvar_names_any : PlainRelvar → Bool
   relvar_names_any (base value constraints) = list_any references_any constraints
   relvar_names_any (view t history) = names_any t
-  relvar_names_any (log of side value) = some of
+  relvar_names_any (log of side last value) = some of

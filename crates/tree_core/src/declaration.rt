@@ -34,6 +34,14 @@ pub struct HistoryData {
     pub place: Place,
 }
 
+/// What a LOG statement declares: the log's name, that of its base relvar, and the attribute that tells the statements.
+#[derive(Drop)]
+pub struct LogData {
+    pub name: Name,
+    pub of: Name,
+    pub attribute: Name,
+}
+
 /// A base relvar and the expression whose rows it gets.
 #[derive(Drop)]
 pub struct Assignment {

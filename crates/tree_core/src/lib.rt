@@ -14,7 +14,7 @@ mod uses;
 mod wrapping;
 
 pub use copy::{copy_aggregates, copy_sets};
-pub use declaration::{Assignment, Declaration, HistoryData};
+pub use declaration::{Assignment, Declaration, HistoryData, LogData};
 pub use histories::{history_if, rule_if};
 pub use item::{Change, Item, ItemForm, Items, Portion};
 pub use relvar::{Relvar, Relvars};

@@ -75,7 +75,7 @@ base-heading-fine : (at : Place) (o : Option PlainRelvar) → IsNotE06 (base_hea
 base-heading-fine at None = λ e. cc
 base-heading-fine at (Some (base value constraints)) = tt
 base-heading-fine at (Some (view t history)) = λ e. cc
-base-heading-fine at (Some (log o k w)) = λ e. cc
+base-heading-fine at (Some (log o k last w)) = λ e. cc
 
 heading-there-fine : (s : State) (own : Name) (heading : Heading) (at : Place) (name : Name) → IsNotE06 (heading_there s own heading at name)
 heading-there-fine s own heading at name = choice-fine (bytes_eq own name) (Ok heading) (base_heading at (relvar_named s.relvars name)) tt (base-heading-fine at (relvar_named s.relvars name))

@@ -149,7 +149,7 @@ module _ (sizes : List ℕ) where
       → IsTrue (is_declared sizes (relvar_heading r))
   relvar-declared before own (base value constraints) all h = h.0
   relvar-declared before own (view t history) all h = tree-declared (headings_of before) t all h.0
-  relvar-declared before own (log of side value) all h = h.0
+  relvar-declared before own (log of side last value) all h = h.0
 
   pub all-append : (p : Name × Heading → Bool) (xs ys : Headings) → IsTrue (list_all p xs) → IsTrue (list_all p ys) → IsTrue (list_all p (xs ++ ys))
   all-append p [] ys h k = k

@@ -110,7 +110,7 @@ module _ (state : State) (made : IsWellMade state) where
       by-name name None e = tt
       by-name name (Some (base value constraints)) e = (subst IsBase (sym e) tt, sym (ap heading_if e))
       by-name name (Some (view t history)) e = tt
-      by-name name (Some (log o k w)) e = tt
+      by-name name (Some (log o k last w)) e = tt
 
   -- its heading is one
   target-heading : (place : Place) (t : Target) → IsTarget state t → IsTrue (is_heading t.1)

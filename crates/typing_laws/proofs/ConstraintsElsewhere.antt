@@ -95,9 +95,9 @@ base-elsewhere at to (Some (base v c)) (Some (base u d)) g like h =
     let same : base_heading to (Some (base u d)) ≡ Ok v.heading = ap (λ (x : Heading). Ok x) like.0 in
     same ∙ h
 base-elsewhere at to (Some (base v c)) (Some (view t k)) g like h = absurd like
-base-elsewhere at to (Some (base v c)) (Some (log o i w)) g like h = absurd like
+base-elsewhere at to (Some (base v c)) (Some (log o i last w)) g like h = absurd like
 base-elsewhere at to (Some (view t k)) p g like h = absurd cc
-base-elsewhere at to (Some (log o i w)) p g like h = absurd cc
+base-elsewhere at to (Some (log o i last w)) p g like h = absurd cc
 
 module _ (f : Place → Place) (some : Name → Bool) (s r : State) (alike : Alike some s.relvars r.relvars) (own : Name) (heading : Heading) where
   there-elsewhere : (at : Place) (name : Name) (g : Heading) → names_other some own name ≡ false → heading_there s own heading at name ≡ Ok g → heading_there r own heading (f at) name ≡ Ok g

@@ -42,10 +42,10 @@ base-declared sizes before ((own, view t history) ∷ rest) name are =
       | true ↦ λ is. absurd is
       | false ↦ base-declared sizes (before ++ (own, view t history) ∷ []) rest name are.1
     ]
-base-declared sizes before ((own, log of side value) ∷ rest) name are =
-    elim (bytes_eq own name) as (λ b. IsBase (cond b (Some (log of side value)) (relvar_named rest name)) → IsTrue (is_declared sizes (heading_if (cond b (Some (log of side value)) (relvar_named rest name))))) [
+base-declared sizes before ((own, log of side last value) ∷ rest) name are =
+    elim (bytes_eq own name) as (λ b. IsBase (cond b (Some (log of side last value)) (relvar_named rest name)) → IsTrue (is_declared sizes (heading_if (cond b (Some (log of side last value)) (relvar_named rest name))))) [
       | true ↦ λ is. absurd is
-      | false ↦ base-declared sizes (before ++ (own, log of side value) ∷ []) rest name are.1
+      | false ↦ base-declared sizes (before ++ (own, log of side last value) ∷ []) rest name are.1
     ]
 
 -- ---- headings
