@@ -1,0 +1,104 @@
+// Logs after one statement more.
+ghost use Rattle.std.specs.Prelude.{◌≡◌, ◌<◌, ◌≤◌, ◌<ℤ◌, ◌+ℤ◌, ℕ, pos, suc, None, drop, get_or, length, map};
+ghost use Rattle.point_core.specs.Whole.{greatest_whole};
+ghost use Rattle.tree_core.specs.Relvars.{read_entry, read_relvar, read_relvars, Entries};
+ghost use Rattle.meaning_core.specs.Declarations.{counted};
+ghost use Rattle.meaning_core.specs.Logs.{turned_relvar, IsInStep};
+ghost use Rattle.assign_core.specs.Changes.{turned_at, IsSoAt};
+ghost use Rattle.assign_core.specs.Logs.{turned_first, IsNext, AreNext};
+
+use log_times::Log;
+use tree_core::{Relvar, Relvars};
+
+/// Counts a statement, and brings each log to it: by what stands ready for it, or, where its relvar stays as it was, with the same rows.
+/// It takes no memory.
+pub(crate) fn count(relvars: &mut Relvars, next: &mut [Option<Log>])
+    requires room { ((read_relvars relvars.old).accepted +ℤ pos 1) <ℤ greatest_whole }
+    requires next { AreNext (read_relvars relvars.old).accepted (read_relvars relvars.old).relvars next.old (read_relvars relvars.old).relvars }
+    ensures counted { read_relvars relvars.new ≡ counted (read_relvars relvars.old) }
+    ensures step { (i : ℕ) → i < length relvars.new.list.entries → IsSoAt i (IsInStep ((read_relvars relvars.old).accepted +ℤ pos 1) (read_relvars relvars.old).relvars) (read_relvars relvars.new).relvars }
+{
+    turn_first(relvars, next, relvars.list.len());
+    relvars.accepted += 1;
+}
+
+/// Brings the logs among the first so many entries to the next statement.
+pub(crate) fn turn_first(relvars: &mut Relvars, next: &mut [Option<Log>], count: usize)
+    ghost all: { Entries }
+    requires room { ((read_relvars relvars.old).accepted +ℤ pos 1) <ℤ greatest_whole }
+    requires count { count ≤ length relvars.old.list.entries }
+    requires next { AreNext (read_relvars relvars.old).accepted all next.old (read_relvars relvars.old).relvars }
+    ensures list { map read_entry relvars.new.list.entries ≡ turned_first all count (map read_entry relvars.old.list.entries) }
+    ensures step { (i : ℕ) → i < count → IsSoAt i (IsInStep ((read_relvars relvars.old).accepted +ℤ pos 1) all) (map read_entry relvars.new.list.entries) }
+    ensures ordinals { relvars.new.ordinals ≡ relvars.old.ordinals }
+    ensures rules { relvars.new.rules ≡ relvars.old.rules }
+    ensures accepted { relvars.new.accepted ≡ relvars.old.accepted }
+{
+    for at in 0..count {
+        let log = take_at(next, at);
+        turn_at(relvars, at, log);
+    }
+}
+
+// Takes the log that stands ready for the entry at a place, if there is one.
+fn take_at(next: &mut [Option<Log>], at: usize) -> Option<Log>
+    ensures log { result ≡ get_or next.old at None }
+    ensures behind { drop (suc at) next.new ≡ drop (suc at) next.old }
+{
+    match next.get_mut(at) {
+        Some(log) => log.take(),
+        None => None,
+    }
+}
+
+// Brings the entry at a place to the next statement, if it is a log.
+fn turn_at(relvars: &mut Relvars, at: usize, next: Option<Log>)
+    ghost all: { Entries }
+    requires room { ((read_relvars relvars.old).accepted +ℤ pos 1) <ℤ greatest_whole }
+    requires at { at < length relvars.old.list.entries }
+    requires next { IsSoAt at (IsNext (read_relvars relvars.old).accepted all next) (map read_entry relvars.old.list.entries) }
+    ensures list { map read_entry relvars.new.list.entries ≡ turned_at at (turned_relvar all) (map read_entry relvars.old.list.entries) }
+    ensures step { IsSoAt at (IsInStep ((read_relvars relvars.old).accepted +ℤ pos 1) all) (map read_entry relvars.new.list.entries) }
+    ensures ordinals { relvars.new.ordinals ≡ relvars.old.ordinals }
+    ensures rules { relvars.new.rules ≡ relvars.old.rules }
+    ensures accepted { relvars.new.accepted ≡ relvars.old.accepted }
+{
+    let number = relvars.accepted + 1;
+    let (_, relvar) = relvars.list.pair_mut(at);
+    turn(relvar, next, number);
+}
+
+// Brings the relvar to the statement of this number, if it is a log.
+fn turn(relvar: &mut Relvar, next: Option<Log>, number: i64)
+    ghost all: { Entries }
+    requires room { number <ℤ greatest_whole }
+    requires next { IsNext (number -ℤ pos 1) all next (read_relvar relvar.old) }
+    ensures turned { read_relvar relvar.new ≡ turned_relvar all (read_relvar relvar.old) }
+    ensures step { IsInStep number all (read_relvar relvar.new) }
+{
+    match relvar {
+        Relvar::Log { of: _, log } => turn_log(log, next, number),
+        Relvar::Base {
+            value: _,
+            constraints: _,
+        } => drop(next),
+        Relvar::View {
+            tree: _,
+            history: _,
+        } => drop(next),
+    }
+}
+
+// Puts the log that stands ready in place of the log, or brings this to the statement with the same rows.
+fn turn_log(log: &mut Log, next: Option<Log>, number: i64)
+    requires room { number <ℤ greatest_whole }
+    requires later { next ≡ None → log.old.last ≤ℤ number }
+    ensures { log.new ≡ turned_to number next log.old }
+{
+    match next {
+        Some(next) => {
+            *log = next;
+        }
+        None => log.advance(number),
+    }
+}
