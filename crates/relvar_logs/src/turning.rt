@@ -1,35 +1,35 @@
 // Logs after one statement more.
-ghost use Rattle.std.specs.Prelude.{◌≡◌, ◌<◌, ◌≤◌, ◌<ℤ◌, ◌+ℤ◌, ℕ, pos, suc, None, drop, get_or, length, map};
+ghost use Rattle.std.specs.Prelude.{◌≡◌, ◌<◌, ◌≤◌, ◌<ℤ◌, ◌+ℤ◌, ◌-ℤ◌, ℕ, pos, suc, None, drop, get_or, length, map};
 ghost use Rattle.point_core.specs.Whole.{greatest_whole};
 ghost use Rattle.tree_core.specs.Relvars.{read_entry, read_relvar, read_relvars, Entries};
 ghost use Rattle.meaning_core.specs.Declarations.{counted};
-ghost use Rattle.meaning_core.specs.Logs.{turned_relvar, IsInStep};
-ghost use Rattle.assign_core.specs.Changes.{turned_at, IsSoAt};
-ghost use Rattle.assign_core.specs.Logs.{turned_first, IsNext, AreNext};
+ghost use Rattle.meaning_core.specs.Logs.{turned_relvar, AreInStep, IsInStep};
+ghost use Rattle.relvar_logs.specs.Turning.{turned_first, turned_there, AreNext, IsNext, IsThere};
 
 use log_times::Log;
 use tree_core::{Relvar, Relvars};
 
 /// Counts a statement, and brings each log to it: by what stands ready for it, or, where its relvar stays as it was, with the same rows.
 /// It takes no memory.
-pub(crate) fn count(relvars: &mut Relvars, next: &mut [Option<Log>])
+pub fn count(relvars: &mut Relvars, next: &mut [Option<Log>])
     requires room { ((read_relvars relvars.old).accepted +ℤ pos 1) <ℤ greatest_whole }
     requires next { AreNext (read_relvars relvars.old).accepted (read_relvars relvars.old).relvars next.old (read_relvars relvars.old).relvars }
     ensures counted { read_relvars relvars.new ≡ counted (read_relvars relvars.old) }
-    ensures step { (i : ℕ) → i < length relvars.new.list.entries → IsSoAt i (IsInStep ((read_relvars relvars.old).accepted +ℤ pos 1) (read_relvars relvars.old).relvars) (read_relvars relvars.new).relvars }
+    ensures step { AreInStep (read_relvars relvars.new).accepted (read_relvars relvars.new).relvars }
 {
-    turn_first(relvars, next, relvars.list.len());
+    let count = relvars.list.len();
+    turn_first(relvars, next, count);
     relvars.accepted += 1;
 }
 
-/// Brings the logs among the first so many entries to the next statement.
-pub(crate) fn turn_first(relvars: &mut Relvars, next: &mut [Option<Log>], count: usize)
+/// Brings the logs among the first so many entries to the next statement, after which these are all relvars.
+pub fn turn_first(relvars: &mut Relvars, next: &mut [Option<Log>], count: usize)
     ghost all: { Entries }
     requires room { ((read_relvars relvars.old).accepted +ℤ pos 1) <ℤ greatest_whole }
     requires count { count ≤ length relvars.old.list.entries }
-    requires next { AreNext (read_relvars relvars.old).accepted all next.old (read_relvars relvars.old).relvars }
+    requires next { AreNext (read_relvars relvars.old).accepted all next.old (map read_entry relvars.old.list.entries) }
     ensures list { map read_entry relvars.new.list.entries ≡ turned_first all count (map read_entry relvars.old.list.entries) }
-    ensures step { (i : ℕ) → i < count → IsSoAt i (IsInStep ((read_relvars relvars.old).accepted +ℤ pos 1) all) (map read_entry relvars.new.list.entries) }
+    ensures step { (i : ℕ) → i < count → IsThere i (IsInStep ((read_relvars relvars.old).accepted +ℤ pos 1) all) (map read_entry relvars.new.list.entries) }
     ensures ordinals { relvars.new.ordinals ≡ relvars.old.ordinals }
     ensures rules { relvars.new.rules ≡ relvars.old.rules }
     ensures accepted { relvars.new.accepted ≡ relvars.old.accepted }
@@ -56,9 +56,9 @@ fn turn_at(relvars: &mut Relvars, at: usize, next: Option<Log>)
     ghost all: { Entries }
     requires room { ((read_relvars relvars.old).accepted +ℤ pos 1) <ℤ greatest_whole }
     requires at { at < length relvars.old.list.entries }
-    requires next { IsSoAt at (IsNext (read_relvars relvars.old).accepted all next) (map read_entry relvars.old.list.entries) }
-    ensures list { map read_entry relvars.new.list.entries ≡ turned_at at (turned_relvar all) (map read_entry relvars.old.list.entries) }
-    ensures step { IsSoAt at (IsInStep ((read_relvars relvars.old).accepted +ℤ pos 1) all) (map read_entry relvars.new.list.entries) }
+    requires next { IsThere at (IsNext (read_relvars relvars.old).accepted all next) (map read_entry relvars.old.list.entries) }
+    ensures list { map read_entry relvars.new.list.entries ≡ turned_there all at (map read_entry relvars.old.list.entries) }
+    ensures step { IsThere at (IsInStep ((read_relvars relvars.old).accepted +ℤ pos 1) all) (map read_entry relvars.new.list.entries) }
     ensures ordinals { relvars.new.ordinals ≡ relvars.old.ordinals }
     ensures rules { relvars.new.rules ≡ relvars.old.rules }
     ensures accepted { relvars.new.accepted ≡ relvars.old.accepted }
@@ -68,7 +68,7 @@ fn turn_at(relvars: &mut Relvars, at: usize, next: Option<Log>)
     turn(relvar, next, number);
 }
 
-// Brings the relvar to the statement of this number, if it is a log.
+// Brings the relvar to the statement of this number, if it is a log: by what stands ready, or with the same rows.
 fn turn(relvar: &mut Relvar, next: Option<Log>, number: i64)
     ghost all: { Entries }
     requires room { number <ℤ greatest_whole }
@@ -77,7 +77,12 @@ fn turn(relvar: &mut Relvar, next: Option<Log>, number: i64)
     ensures step { IsInStep number all (read_relvar relvar.new) }
 {
     match relvar {
-        Relvar::Log { of: _, log } => turn_log(log, next, number),
+        Relvar::Log { of: _, log } => match next {
+            Some(next) => {
+                *log = next;
+            }
+            None => log.advance(number),
+        },
         Relvar::Base {
             value: _,
             constraints: _,
@@ -86,19 +91,5 @@ fn turn(relvar: &mut Relvar, next: Option<Log>, number: i64)
             tree: _,
             history: _,
         } => drop(next),
-    }
-}
-
-// Puts the log that stands ready in place of the log, or brings this to the statement with the same rows.
-fn turn_log(log: &mut Log, next: Option<Log>, number: i64)
-    requires room { number <ℤ greatest_whole }
-    requires later { next ≡ None → log.old.last ≤ℤ number }
-    ensures { log.new ≡ turned_to number next log.old }
-{
-    match next {
-        Some(next) => {
-            *log = next;
-        }
-        None => log.advance(number),
     }
 }

@@ -1,0 +1,46 @@
+-- Logs that stand ready for the next statement.
+--     IsReadyLog      a log after one statement more
+--     IsNext, AreNext      what stands ready for the entries of a state
+--     turned_there, turned_first      the entries with the log at a place turned, and with those among the first of them
+--     IsThere      an entry stands at a place, of which this is so
+use Rattle.std.specs.Prelude.{◌≡◌, ℕ, zero, suc, ℤ, pos, ◌+ℤ◌, List, [], ◌∷◌, Option, Some, None}
+use Rattle.log_times.specs.Kept.{PlainLog, log_relation}
+use Rattle.tree_core.specs.Relvars.{PlainRelvar, base, view, log, Entries}
+use Rattle.meaning_core.specs.Logs.{turned_relvar, IsInStep}
+
+-- what a log is after the statement behind the n-th, after which these are the relvars
+pub record IsReadyLog (n : ℤ) (all : Entries) (before after : PlainRelvar) : Type 0 where
+  pub is : after ≡ turned_relvar all before
+  pub step : IsInStep (n +ℤ pos 1) all after
+
+-- A log that stands ready for the statement behind the n-th, after which these are the relvars. Where none stands ready, the relvar's rows are
+-- those that the log tells of the n-th. Of other entries nothing is asked.
+abbrev pub IsNext : ℤ → Entries → Option PlainLog → PlainRelvar → Type 0
+IsNext n all next (base value constraints) = Unit {0}
+IsNext n all next (view t history) = Unit {0}
+IsNext n all None (log of side last value) = IsInStep n all (log of side last value)
+IsNext n all (Some t) (log of side last value) = IsReadyLog n all (log of side last value) (log of t.side t.last (log_relation t))
+
+-- the same of all; behind the list none stands ready
+abbrev pub AreNext : ℤ → Entries → List (Option PlainLog) → Entries → Type 0
+AreNext n all [] [] = Unit {0}
+AreNext n all [] (r ∷ rest) = IsNext n all None r.1 × AreNext n all [] rest
+AreNext n all (t ∷ ts) [] = Unit {0}
+AreNext n all (t ∷ ts) (r ∷ rest) = IsNext n all t r.1 × AreNext n all ts rest
+
+-- the entries with the log at the place turned, if one stands there
+abbrev pub turned_there : Entries → ℕ → Entries → Entries
+turned_there all i [] = []
+turned_there all zero (r ∷ rest) = (r.0, turned_relvar all r.1) ∷ rest
+turned_there all (suc i) (r ∷ rest) = r ∷ turned_there all i rest
+
+-- and with the logs among the first so many turned
+abbrev pub turned_first : Entries → ℕ → Entries → Entries
+turned_first all zero es = es
+turned_first all (suc i) [] = []
+turned_first all (suc i) (r ∷ rest) = (r.0, turned_relvar all r.1) ∷ turned_first all i rest
+
+abbrev pub IsThere : ℕ → (PlainRelvar → Type 0) → Entries → Type 0
+IsThere i P [] = ⊥
+IsThere zero P (r ∷ rest) = P r.1
+IsThere (suc i) P (r ∷ rest) = IsThere i P rest
