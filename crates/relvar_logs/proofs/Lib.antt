@@ -1,0 +1,2 @@
+pub mod TurningLemmas
+pub mod CountLemmas
