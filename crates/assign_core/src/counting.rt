@@ -3,7 +3,7 @@ ghost use Rattle.std.specs.Prelude.{◌≡◌, ◌<◌, length, nat_le, slice_in
 ghost use Rattle.value_core.specs.Values.{Name as PlainName};
 ghost use Rattle.tree_core.specs.Relvars.{read_relvars, PlainRelvar};
 ghost use Rattle.assign_core.specs.Breaches.{count_of, rows_of_all};
-ghost use Rattle.assign_core.specs.Changes.{changed};
+ghost use Rattle.relvar_logs.specs.Changes.{changed};
 
 use crate::changes::newest_at;
 use tree_core::Relvars;

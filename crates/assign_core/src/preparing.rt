@@ -7,7 +7,7 @@ ghost use Rattle.tree_core.specs.Relvars.{read_relvars};
 ghost use Rattle.meaning_core.specs.Updates.{IsTypedAssignment};
 ghost use Rattle.change_rows.specs.Exchanges.{IsExchange};
 ghost use Rattle.assign_core.specs.Assignments.{after_assignments, kept_or_refused, of_values, with_target, IsRefusedFor, IsAdmitted};
-ghost use Rattle.assign_core.specs.Changes.{AreChanges, changed};
+ghost use Rattle.relvar_logs.specs.Changes.{AreChanges, changed};
 ghost use Rattle.assign_core.specs.Costs.{assignments_cost, constraints_cost, constraints_cost_of};
 ghost use Rattle.assign_core.specs.Databases.{IsKept};
 ghost use Rattle.assign_core.specs.declared.exchange.Change.TheVariants.{Rows};

@@ -1,2 +1,3 @@
-pub mod TurningLemmas
 pub mod CountLemmas
+pub mod EntryLemmas
+pub mod TurningLemmas

@@ -1,13 +1,13 @@
 -- Logs that are turned one after the other.
---     set_there, is_there      an entry at a place, and another one put there
 --     next_there, later_there, earlier_there      what stands ready for an entry, and what is so of one, while logs before it are turned
 --     first_more, first_all      one log more, and all
 --     idle_turned      a log whose relvar stays
 --     all_in_step      each log tells its relvar's rows when all are turned
-use Rattle.std.proofs.Common.{◌≡◌, true, false, cond, ℕ, zero, suc, ◌<◌, ◌≤◌, ℤ, pos, ◌+ℤ◌, ◌-ℤ◌, ◌<ℤ◌, List, [], ◌∷◌, map, drop, get_or, length, refl, sym, ap, ap₂, subst, ◌∙◌, arith, Option, Some, None}
+use Rattle.std.proofs.Common.{◌≡◌, inl, inr, true, false, cond, ℕ, zero, suc, ◌+◌, ◌<◌, ◌≤◌, ℤ, pos, ◌+ℤ◌, ◌-ℤ◌, ◌<ℤ◌, List, [], ◌∷◌, map, drop, get_or, length, refl, sym, ap, ap₂, subst, ◌∙◌, arith, Option, Some, None}
 use Rattle.std.specs.Prelude.{slice_get, option_map}
 use Rattle.std.specs.Str.{bytes_eq}
 use Rattle.std.specs.List.{All}
+use Rattle.std.proofs.lemmas.Bool.{cases_lt}
 use Rattle.std.proofs.lemmas.Int.{ints}
 use Rattle.std.proofs.lemmas.List.Elements.{All-nil, All-cons}
 use Rattle.indexmap.specs.IndexMap.{set_value_at}
@@ -19,38 +19,16 @@ use Rattle.log_times.specs.Told.{value_after}
 use Rattle.log_times.proofs.TurnLemmas.{idle}
 use Rattle.log_turns.proofs.ValueLemmas.{value-standing}
 use Rattle.tree_core.specs.declared.relvar.Relvar.{Relvar}
+use Rattle.tree_core.specs.declared.relvar.Relvar.TheVariants.{Log}
 use Rattle.tree_core.specs.Relvars.{PlainRelvar, base, view, log, Entries, relvar_named, read_entry, read_relvar}
 use Rattle.meaning_core.specs.Logs.{base_rows, turned_relvar, turned_logs, IsInStep, AreInStep}
-use Rattle.relvar_logs.specs.Turning.{IsNext, AreNext, turned_there, turned_first, IsThere}
-
--- ---- an entry at a place
-
-pub set_there : (all : Entries) (es : List (Name × Relvar)) (i : ℕ) (w : Relvar) (k : Name) (r : Relvar) → slice_get es i ≡ Some (k, r) → read_relvar w ≡ turned_relvar all (read_relvar r)
-    → map read_entry (set_value_at es i w) ≡ turned_there all i (map read_entry es)
-set_there all [] i w k r is e = refl
-set_there all (x ∷ es) zero w k r is e =
-    let same : (k, r) ≡ x = cc in
-    ap (λ (z : PlainRelvar). (x.0, z) ∷ map read_entry es) (e ∙ ap (λ (z : Name × Relvar). turned_relvar all (read_relvar z.1)) same)
-set_there all (x ∷ es) (suc i) w k r is e = ap (λ (z : Entries). read_entry x ∷ z) (set_there all es i w k r is e)
-
-pub is_there : (P : PlainRelvar → Type 0) (es : List (Name × Relvar)) (i : ℕ) (k : Name) (r : Relvar) → IsThere i P (map read_entry es) → slice_get es i ≡ Some (k, r) → P (read_relvar r)
-is_there P [] i k r h is = absurd h
-is_there P (x ∷ es) zero k r h is = let same : x ≡ (k, r) = cc in subst (λ (z : Name × Relvar). P (read_relvar z.1)) same h
-is_there P (x ∷ es) (suc i) k r h is = is_there P es i k r h is
-
-pub there_is : (P : PlainRelvar → Type 0) (es : List (Name × Relvar)) (i : ℕ) (k : Name) (r : Relvar) → P (read_relvar r) → slice_get es i ≡ Some (k, r) → IsThere i P (map read_entry es)
-there_is P [] i k r h is = absurd (cc)
-there_is P (x ∷ es) zero k r h is = let same : (k, r) ≡ x = cc in subst (λ (z : Name × Relvar). P (read_relvar z.1)) same h
-there_is P (x ∷ es) (suc i) k r h is = there_is P es i k r h is
-
-pub put_there : (P : PlainRelvar → Type 0) (es : List (Name × Relvar)) (i : ℕ) (w : Relvar) → i < length es → P (read_relvar w) → IsThere i P (map read_entry (set_value_at es i w))
-put_there P [] i w l h = absurd (omega (arith, l))
-put_there P (x ∷ es) zero w l h = h
-put_there P (x ∷ es) (suc i) w l h = put_there P es i w (omega (arith, l)) h
+use Rattle.relvar_logs.specs.Changes.{turned_at, IsSoAt}
+use Rattle.relvar_logs.specs.Turning.{IsNext, AreNext, turned_first}
+use Rattle.relvar_logs.proofs.EntryLemmas.{entries_length, so_weaker}
 
 -- ---- what stands ready for it
 
-pub next_there : (n : ℤ) (all : Entries) (ts : List (Option PlainLog)) (es : Entries) (i : ℕ) → AreNext n all ts es → i < length es → IsThere i (IsNext n all (get_or ts i None)) es
+pub next_there : (n : ℤ) (all : Entries) (ts : List (Option PlainLog)) (es : Entries) (i : ℕ) → AreNext n all ts es → i < length es → IsSoAt i (IsNext n all (get_or ts i None)) es
 next_there n all ts [] i are l = absurd (omega (arith, l))
 next_there n all [] (e ∷ es) zero are l = are.0
 next_there n all [] (e ∷ es) (suc i) are l = next_there n all [] es i are.1 (omega (arith, l))
@@ -58,13 +36,13 @@ next_there n all (t ∷ ts) (e ∷ es) zero are l = are.0
 next_there n all (t ∷ ts) (e ∷ es) (suc i) are l = next_there n all ts es i are.1 (omega (arith, l))
 
 -- of an entry behind those that are turned, and of one before that which is turned next
-pub later_there : (P : PlainRelvar → Type 0) (all : Entries) (es : Entries) (n i : ℕ) → n ≤ i → IsThere i P es → IsThere i P (turned_first all n es)
+pub later_there : (P : PlainRelvar → Type 0) (all : Entries) (es : Entries) (n i : ℕ) → n ≤ i → IsSoAt i P es → IsSoAt i P (turned_first all n es)
 later_there P all es zero i l h = h
 later_there P all [] (suc n) i l h = absurd h
 later_there P all (e ∷ es) (suc n) zero l h = absurd (omega (arith, l))
 later_there P all (e ∷ es) (suc n) (suc i) l h = later_there P all es n i (omega (arith, l)) h
 
-pub earlier_there : (P : PlainRelvar → Type 0) (all : Entries) (es : Entries) (n i : ℕ) → i < n → IsThere i P es → IsThere i P (turned_there all n es)
+pub earlier_there : (P : PlainRelvar → Type 0) (all : Entries) (es : Entries) (n i : ℕ) → i < n → IsSoAt i P es → IsSoAt i P (turned_at n (turned_relvar all) es)
 earlier_there P all [] n i l h = absurd h
 earlier_there P all (e ∷ es) zero i l h = absurd (omega (arith, l))
 earlier_there P all (e ∷ es) (suc n) zero l h = h
@@ -72,19 +50,20 @@ earlier_there P all (e ∷ es) (suc n) (suc i) l h = earlier_there P all es n i 
 
 -- ---- one more, and all
 
-pub first_more : (all es : Entries) (i : ℕ) → turned_there all i (turned_first all i es) ≡ turned_first all (suc i) es
+pub first_more : (all es : Entries) (i : ℕ) → turned_at i (turned_relvar all) (turned_first all i es) ≡ turned_first all (suc i) es
 first_more all [] zero = refl
 first_more all [] (suc i) = refl
 first_more all (e ∷ es) zero = refl
 first_more all (e ∷ es) (suc i) = ap (λ (z : Entries). (e.0, turned_relvar all e.1) ∷ z) (first_more all es i)
 
+pub first_length : (all es : Entries) (i : ℕ) → length (turned_first all i es) ≡ length es
+first_length all es zero = refl
+first_length all [] (suc i) = refl
+first_length all (e ∷ es) (suc i) = ap suc (first_length all es i)
+
 pub first_all : (all es : Entries) → turned_first all (length es) es ≡ map (λ r. (r.0, turned_relvar all r.1)) es
 first_all all [] = refl
 first_all all (e ∷ es) = ap (λ (z : Entries). (e.0, turned_relvar all e.1) ∷ z) (first_all all es)
-
-pub entries_length : (es : List (Name × Relvar)) → length (map read_entry es) ≡ length es
-entries_length [] = refl
-entries_length (e ∷ es) = ap suc (entries_length es)
 
 -- behind a place the list of what stands ready is as it was
 pub ready_later : (ts us : List (Option PlainLog)) (i : ℕ) → drop i ts ≡ drop i us → get_or ts i None ≡ get_or us i None
@@ -95,7 +74,34 @@ ready_later ts us i e = head_of ts i ∙ (ap (λ (l : List (Option PlainLog)). g
     head_of [] (suc k) = refl
     head_of (x ∷ l) (suc k) = head_of l k
 
+pub drop_later : (new mid old : List (Option PlainLog)) (i : ℕ) → drop (suc i) new ≡ drop (suc i) mid → drop i mid ≡ drop i old → drop (i + 1) new ≡ drop (i + 1) old
+drop_later new mid old i e d =
+    let one : i + 1 ≡ suc i = omega arith in
+    ap (λ (k : ℕ). drop k new) one ∙ (e ∙ (behind mid i ∙ (ap (drop 1) d ∙ (sym (behind old i) ∙ ap (λ (k : ℕ). drop k old) (sym one)))))
+  where
+    behind : (l : List (Option PlainLog)) (k : ℕ) → drop (suc k) l ≡ drop 1 (drop k l)
+    behind l zero = refl
+    behind [] (suc k) = refl
+    behind (x ∷ l) (suc k) = behind l k
+
+-- the logs before the place are in step, and then that at the place
+pub more_in_step : (n : ℤ) (all es fs : Entries) (at : ℕ) → fs ≡ turned_at at (turned_relvar all) es → ((i : ℕ) → i < at → IsSoAt i (IsInStep n all) es) → IsSoAt at (IsInStep n all) fs
+    → (i : ℕ) → i < at + 1 → IsSoAt i (IsInStep n all) fs
+more_in_step n all es fs at e h here i l =
+    elim (cases_lt i at) [
+      | inl lt ↦ subst (λ (z : Entries). IsSoAt i (IsInStep n all) z) (sym e) (earlier_there (IsInStep n all) all es at i lt (h i lt))
+      | inr le ↦ let same : at ≡ i = omega (arith, l, le) in subst (λ (k : ℕ). IsSoAt k (IsInStep n all) fs) same here
+    ]
+
+pub all_before : (n : ℤ) (all es : Entries) (count at : ℕ) → count ≤ at → ((i : ℕ) → i < at → IsSoAt i (IsInStep n all) es) → (i : ℕ) → i < count → IsSoAt i (IsInStep n all) es
+all_before n all es count at l h i k = h i (omega (arith, l, k))
+
 -- ---- a log whose relvar stays
+
+pub idle_next : (all : Entries) (n : ℤ) (next : Option PlainLog) (r : Relvar) (of : Name) (l : PlainLog) → next ≡ None → r ≡ Log of l → IsNext (n -ℤ pos 1) all next (read_relvar r)
+    → IsInStep (n -ℤ pos 1) all (log of l.side l.last (log_relation l))
+idle_next all n next r of l none is h =
+    subst (λ (o : Option PlainLog). IsNext (n -ℤ pos 1) all o (log of l.side l.last (log_relation l))) none (subst (λ (k : Relvar). IsNext (n -ℤ pos 1) all next (read_relvar k)) is h)
 
 module _ (all : Entries) (of : Name) (l : PlainLog) (n : ℤ) (is : IsLog l) (relation : IsRelation l.stored) (below : n <ℤ open_end)
     (step : IsInStep (n -ℤ pos 1) all (log of l.side l.last (log_relation l))) where
@@ -147,16 +153,17 @@ step-turned n all (base value constraints) h = tt
 step-turned n all (view t history) h = tt
 step-turned n all (log of side last value) h = (h.0, h.1 ∙ sym (rows-turned all of))
 
-all-there : (P : PlainRelvar → Type 0) (es : Entries) → ((i : ℕ) → i < length es → IsThere i P es) → All (λ r. P r.1) es
+all-there : (P : PlainRelvar → Type 0) (es : Entries) → ((i : ℕ) → i < length es → IsSoAt i P es) → All (λ r. P r.1) es
 all-there P [] h = All-nil (λ r. P r.1)
 all-there P (e ∷ es) h = All-cons (λ r. P r.1) e es (h 0 (omega arith)) (all-there P es (λ i l. h (suc i) (omega (arith, l))))
 
-there-weaker : (P Q : PlainRelvar → Type 0) (es : Entries) (i : ℕ) → ((r : PlainRelvar) → P r → Q r) → IsThere i P es → IsThere i Q es
-there-weaker P Q [] i f h = absurd h
-there-weaker P Q (e ∷ es) zero f h = f e.1 h
-there-weaker P Q (e ∷ es) (suc i) f h = there-weaker P Q es i f h
-
-pub all_in_step : (n : ℤ) (all es : Entries) → es ≡ turned_logs all → ((i : ℕ) → i < length es → IsThere i (IsInStep n all) es) → AreInStep n es
+pub all_in_step : (n : ℤ) (all es : Entries) → es ≡ turned_logs all → ((i : ℕ) → i < length es → IsSoAt i (IsInStep n all) es) → AreInStep n es
 all_in_step n all es e h =
     subst (λ (z : Entries). All (λ r. IsInStep n z r.1) es) (sym e)
-    (all-there (IsInStep n (turned_logs all)) es (λ i l. there-weaker (IsInStep n all) (IsInStep n (turned_logs all)) es i (step-turned n all) (h i l)))
+    (all-there (IsInStep n (turned_logs all)) es (λ i l. so_weaker es i (IsInStep n all) (IsInStep n (turned_logs all)) (step-turned n all) (h i l)))
+
+-- the list of entries after all have been turned
+pub all_turned : (es fs : List (Name × Relvar)) (count : ℕ) → count ≡ length es → map read_entry fs ≡ turned_first (map read_entry es) count (map read_entry es)
+    → map read_entry fs ≡ turned_logs (map read_entry es)
+all_turned es fs count n e =
+    e ∙ (ap (λ (k : ℕ). turned_first (map read_entry es) k (map read_entry es)) (n ∙ sym (entries_length es)) ∙ first_all (map read_entry es) (map read_entry es))

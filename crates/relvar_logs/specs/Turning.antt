@@ -1,8 +1,7 @@
 -- Logs that stand ready for the next statement.
 --     IsReadyLog      a log after one statement more
 --     IsNext, AreNext      what stands ready for the entries of a state
---     turned_there, turned_first      the entries with the log at a place turned, and with those among the first of them
---     IsThere      an entry stands at a place, of which this is so
+--     turned_first      the entries with the logs among the first of them turned
 use Rattle.std.specs.Prelude.{◌≡◌, ℕ, zero, suc, ℤ, pos, ◌+ℤ◌, List, [], ◌∷◌, Option, Some, None}
 use Rattle.log_times.specs.Kept.{PlainLog, log_relation}
 use Rattle.tree_core.specs.Relvars.{PlainRelvar, base, view, log, Entries}
@@ -28,19 +27,8 @@ AreNext n all [] (r ∷ rest) = IsNext n all None r.1 × AreNext n all [] rest
 AreNext n all (t ∷ ts) [] = Unit {0}
 AreNext n all (t ∷ ts) (r ∷ rest) = IsNext n all t r.1 × AreNext n all ts rest
 
--- the entries with the log at the place turned, if one stands there
-abbrev pub turned_there : Entries → ℕ → Entries → Entries
-turned_there all i [] = []
-turned_there all zero (r ∷ rest) = (r.0, turned_relvar all r.1) ∷ rest
-turned_there all (suc i) (r ∷ rest) = r ∷ turned_there all i rest
-
--- and with the logs among the first so many turned
+-- the entries with the logs among the first so many turned
 abbrev pub turned_first : Entries → ℕ → Entries → Entries
 turned_first all zero es = es
 turned_first all (suc i) [] = []
 turned_first all (suc i) (r ∷ rest) = (r.0, turned_relvar all r.1) ∷ turned_first all i rest
-
-abbrev pub IsThere : ℕ → (PlainRelvar → Type 0) → Entries → Type 0
-IsThere i P [] = ⊥
-IsThere zero P (r ∷ rest) = P r.1
-IsThere (suc i) P (r ∷ rest) = IsThere i P rest

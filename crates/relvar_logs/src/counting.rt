@@ -1,10 +1,11 @@
 // Logs among relvars, and how many rows they have.
-ghost use Rattle.std.specs.Prelude.{◌≡◌, ◌<◌, ◌<ℤ◌, ◌+ℤ◌, ℤ, pos, get_or, length, map, None};
+ghost use Rattle.std.specs.Prelude.{◌≡◌, ◌<◌, ◌<ℤ◌, ◌+ℤ◌, ℤ, pos, get_or, length, map, true, IfSome, None};
 ghost use Rattle.point_core.specs.Whole.{greatest_whole};
 ghost use Rattle.tree_core.specs.Relvars.{read_relvar, read_relvars, Entries};
 ghost use Rattle.meaning_core.specs.Logs.{has_log, is_log, turned_relvar};
-ghost use Rattle.relvar_logs.specs.Room.{left_of, log_count, rows_of_logs};
-ghost use Rattle.relvar_logs.specs.Turning.{AreNext, IsNext, IsThere};
+ghost use Rattle.relvar_logs.specs.Changes.{IsSoAt};
+ghost use Rattle.relvar_logs.specs.Room.{are_each_few, left_of, rows_of_logs, IsCountedAs};
+ghost use Rattle.relvar_logs.specs.Turning.{AreNext, IsNext};
 
 use log_times::Log;
 use tree_core::{Relvar, Relvars};
@@ -38,13 +39,14 @@ fn is_log(relvar: &Relvar) -> bool
     }
 }
 
-/// What is left of the number without the rows of the logs, as they are with what stands ready for the next statement; none, where they are
-/// more.
+/// What is left of the number without the rows of the logs, as they are with what stands ready for the next statement, behind which these are
+/// the relvars; none, where they are more.
 pub fn room_beside(relvars: &Relvars, next: &[Option<Log>], most: usize) -> Option<usize>
-    ghost all: { Entries }
-    requires room { ((read_relvars relvars.now).accepted +ℤ pos 1) <ℤ greatest_whole }
-    requires next { AreNext (read_relvars relvars.now).accepted all next.now (read_relvars relvars.now).relvars }
-    ensures { result ≡ left_of most (rows_of_logs (map (λ r. (r.0, turned_relvar all r.1)) (read_relvars relvars.now).relvars)) }
+    ghost behind: { ℤ × Entries }
+    requires room { (behind.0 +ℤ pos 1) <ℤ greatest_whole }
+    requires next { AreNext behind.0 behind.1 next.now (read_relvars relvars.now).relvars }
+    ensures left { result ≡ left_of most (rows_of_logs (map (λ r. (r.0, turned_relvar behind.1 r.1)) (read_relvars relvars.now).relvars)) }
+    ensures few { IfSome result (λ room. are_each_few (map (λ r. (r.0, turned_relvar behind.1 r.1)) (read_relvars relvars.now).relvars) ≡ true) }
 {
     let mut room = most;
     for at in 0..relvars.list.len() {
@@ -59,27 +61,34 @@ pub fn room_beside(relvars: &Relvars, next: &[Option<Log>], most: usize) -> Opti
 
 // How many rows the entry at the place has as a log, with what stands ready for it.
 fn rows_at(relvars: &Relvars, next: &[Option<Log>], at: usize) -> usize
-    ghost all: { Entries }
-    requires room { ((read_relvars relvars.now).accepted +ℤ pos 1) <ℤ greatest_whole }
+    ghost behind: { ℤ × Entries }
+    requires room { (behind.0 +ℤ pos 1) <ℤ greatest_whole }
     requires at { at < length relvars.now.list.entries }
-    requires next { IsThere at (IsNext (read_relvars relvars.now).accepted all (get_or next.now at None)) (read_relvars relvars.now).relvars }
-    ensures { IsThere at (λ r. result ≡ log_count (turned_relvar all r)) (read_relvars relvars.now).relvars }
+    requires next { IsSoAt at (IsNext behind.0 behind.1 (get_or next.now at None)) (read_relvars relvars.now).relvars }
+    ensures { IsSoAt at (IsCountedAs behind.1 result) (read_relvars relvars.now).relvars }
 {
     match relvars.list.get_index(at) {
-        Some((_, relvar)) => match next.get(at) {
-            Some(log) => rows_of(relvar, log),
-            None => rows_of(relvar, &None),
-        },
+        Some((_, relvar)) => rows_of(relvar, next_at(next, at)),
         None => unreachable!(),
     }
 }
 
+// What stands ready for the entry at a place.
+fn next_at(next: &[Option<Log>], at: usize) -> &Option<Log>
+    ensures { result.now ≡ get_or next.now at None }
+{
+    if at < next.len() {
+        return &next[at];
+    }
+    &None
+}
+
 // How many rows the relvar has as a log, with what stands ready for it.
 fn rows_of(relvar: &Relvar, next: &Option<Log>) -> usize
-    ghost at: { ℤ × Entries }
-    requires room { (at.0 +ℤ pos 1) <ℤ greatest_whole }
-    requires next { IsNext at.0 at.1 next.now (read_relvar relvar.now) }
-    ensures { result ≡ log_count (turned_relvar at.1 (read_relvar relvar.now)) }
+    ghost behind: { ℤ × Entries }
+    requires room { (behind.0 +ℤ pos 1) <ℤ greatest_whole }
+    requires next { IsNext behind.0 behind.1 next.now (read_relvar relvar.now) }
+    ensures { IsCountedAs behind.1 result (read_relvar relvar.now) }
 {
     match relvar {
         Relvar::Log { of: _, log } => match next {

@@ -4,7 +4,8 @@ ghost use Rattle.point_core.specs.Whole.{greatest_whole};
 ghost use Rattle.tree_core.specs.Relvars.{read_entry, read_relvar, read_relvars, Entries};
 ghost use Rattle.meaning_core.specs.Declarations.{counted};
 ghost use Rattle.meaning_core.specs.Logs.{turned_relvar, AreInStep, IsInStep};
-ghost use Rattle.relvar_logs.specs.Turning.{turned_first, turned_there, AreNext, IsNext, IsThere};
+ghost use Rattle.relvar_logs.specs.Changes.{turned_at, IsSoAt};
+ghost use Rattle.relvar_logs.specs.Turning.{turned_first, AreNext, IsNext};
 
 use log_times::Log;
 use tree_core::{Relvar, Relvars};
@@ -17,26 +18,27 @@ pub fn count(relvars: &mut Relvars, next: &mut [Option<Log>])
     ensures counted { read_relvars relvars.new ≡ counted (read_relvars relvars.old) }
     ensures step { AreInStep (read_relvars relvars.new).accepted (read_relvars relvars.new).relvars }
 {
+    let number = relvars.accepted + 1;
     let count = relvars.list.len();
-    turn_first(relvars, next, count);
-    relvars.accepted += 1;
+    turn_first(relvars, next, count, number);
+    relvars.accepted = number;
 }
 
-/// Brings the logs among the first so many entries to the next statement, after which these are all relvars.
-pub fn turn_first(relvars: &mut Relvars, next: &mut [Option<Log>], count: usize)
+/// Brings the logs among the first so many entries to the statement of this number, behind which these are all relvars.
+pub fn turn_first(relvars: &mut Relvars, next: &mut [Option<Log>], count: usize, number: i64)
     ghost all: { Entries }
-    requires room { ((read_relvars relvars.old).accepted +ℤ pos 1) <ℤ greatest_whole }
+    requires room { number <ℤ greatest_whole }
     requires count { count ≤ length relvars.old.list.entries }
-    requires next { AreNext (read_relvars relvars.old).accepted all next.old (map read_entry relvars.old.list.entries) }
+    requires next { AreNext (number -ℤ pos 1) all next.old (map read_entry relvars.old.list.entries) }
     ensures list { map read_entry relvars.new.list.entries ≡ turned_first all count (map read_entry relvars.old.list.entries) }
-    ensures step { (i : ℕ) → i < count → IsThere i (IsInStep ((read_relvars relvars.old).accepted +ℤ pos 1) all) (map read_entry relvars.new.list.entries) }
+    ensures step { (i : ℕ) → i < count → IsSoAt i (IsInStep number all) (map read_entry relvars.new.list.entries) }
     ensures ordinals { relvars.new.ordinals ≡ relvars.old.ordinals }
     ensures rules { relvars.new.rules ≡ relvars.old.rules }
     ensures accepted { relvars.new.accepted ≡ relvars.old.accepted }
 {
     for at in 0..count {
         let log = take_at(next, at);
-        turn_at(relvars, at, log);
+        turn_at(relvars, at, log, number);
     }
 }
 
@@ -45,25 +47,24 @@ fn take_at(next: &mut [Option<Log>], at: usize) -> Option<Log>
     ensures log { result ≡ get_or next.old at None }
     ensures behind { drop (suc at) next.new ≡ drop (suc at) next.old }
 {
-    match next.get_mut(at) {
-        Some(log) => log.take(),
-        None => None,
+    if at < next.len() {
+        return next[at].take();
     }
+    None
 }
 
-// Brings the entry at a place to the next statement, if it is a log.
-fn turn_at(relvars: &mut Relvars, at: usize, next: Option<Log>)
+// Brings the entry at a place to the statement of this number, if it is a log.
+fn turn_at(relvars: &mut Relvars, at: usize, next: Option<Log>, number: i64)
     ghost all: { Entries }
-    requires room { ((read_relvars relvars.old).accepted +ℤ pos 1) <ℤ greatest_whole }
+    requires room { number <ℤ greatest_whole }
     requires at { at < length relvars.old.list.entries }
-    requires next { IsThere at (IsNext (read_relvars relvars.old).accepted all next) (map read_entry relvars.old.list.entries) }
-    ensures list { map read_entry relvars.new.list.entries ≡ turned_there all at (map read_entry relvars.old.list.entries) }
-    ensures step { IsThere at (IsInStep ((read_relvars relvars.old).accepted +ℤ pos 1) all) (map read_entry relvars.new.list.entries) }
+    requires next { IsSoAt at (IsNext (number -ℤ pos 1) all next) (map read_entry relvars.old.list.entries) }
+    ensures list { map read_entry relvars.new.list.entries ≡ turned_at at (turned_relvar all) (map read_entry relvars.old.list.entries) }
+    ensures step { IsSoAt at (IsInStep number all) (map read_entry relvars.new.list.entries) }
     ensures ordinals { relvars.new.ordinals ≡ relvars.old.ordinals }
     ensures rules { relvars.new.rules ≡ relvars.old.rules }
     ensures accepted { relvars.new.accepted ≡ relvars.old.accepted }
 {
-    let number = relvars.accepted + 1;
     let (_, relvar) = relvars.list.pair_mut(at);
     turn(relvar, next, number);
 }
