@@ -1,5 +1,5 @@
 -- Rows of logs, counted entry by entry.
-use Rattle.std.proofs.Common.{◌≡◌, inl, inr, subst, ℕ, zero, suc, ◌+◌, ◌-◌, ◌<◌, ◌≤◌, ℤ, pos, ◌+ℤ◌, ◌-ℤ◌, ◌<ℤ◌, Bool, true, false, cond, nat_le, List, [], ◌∷◌, map, drop, length, refl, sym, ap, ◌∙◌, arith, Option, Some, None}
+use Rattle.std.proofs.Common.{◌≡◌, inl, inr, subst, ℕ, zero, suc, ◌+◌, ◌-◌, ◌<◌, ◌≤◌, ℤ, pos, ◌+ℤ◌, ◌-ℤ◌, ◌<ℤ◌, Bool, true, false, cond, nat_le, List, [], ◌∷◌, map, drop, get_or, length, refl, sym, ap, ◌∙◌, arith, Option, Some, None}
 use Rattle.std.specs.Prelude.{◌&&◌}
 use Rattle.std.proofs.lemmas.Bool.{cases_lt}
 use Rattle.std.proofs.lemmas.Bool.Decides.{nat_tests}
@@ -101,6 +101,19 @@ module _ (all : Entries) where
 
     pub all_few : (i : ℕ) → ((k : ℕ) → k < i → IsSoAt k IsFew es) → length es ≤ i → are_each_few (turned es) ≡ true
     all_few i h l = few-all es (λ k m. h k (omega (arith, l, m)))
+
+-- ---- what stands ready at a place
+
+pub ready_here : (ts : List (Option PlainLog)) (i : ℕ) (t : Option PlainLog) → i < length ts → t ≡ get_or ts i t → get_or ts i None ≡ t
+ready_here [] i t l e = absurd (omega (arith, l))
+ready_here (u ∷ ts) zero t l e = sym e
+ready_here (u ∷ ts) (suc i) t l e = ready_here ts i t (omega (arith, l)) e
+
+pub none_here : (ts : List (Option PlainLog)) (i : ℕ) → length ts ≤ i → get_or ts i None ≡ None
+none_here [] zero l = refl
+none_here [] (suc i) l = refl
+none_here (u ∷ ts) zero l = absurd (omega (arith, l))
+none_here (u ∷ ts) (suc i) l = none_here ts i (omega (arith, l))
 
 -- ---- one log
 

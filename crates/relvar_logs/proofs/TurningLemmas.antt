@@ -3,19 +3,17 @@
 --     first_more, first_all      one log more, and all
 --     idle_turned      a log whose relvar stays
 --     all_in_step      each log tells its relvar's rows when all are turned
-use Rattle.std.proofs.Common.{◌≡◌, inl, inr, true, false, cond, ℕ, zero, suc, ◌+◌, ◌<◌, ◌≤◌, ℤ, pos, ◌+ℤ◌, ◌-ℤ◌, ◌<ℤ◌, List, [], ◌∷◌, map, drop, get_or, length, refl, sym, ap, ap₂, subst, ◌∙◌, arith, Option, Some, None}
-use Rattle.std.specs.Prelude.{slice_get, option_map}
+use Rattle.std.proofs.Common.{◌≡◌, inl, inr, true, false, cond, ℕ, zero, suc, ◌+◌, ◌<◌, ◌≤◌, ℤ, pos, ◌+ℤ◌, ◌-ℤ◌, ◌<ℤ◌, List, [], ◌∷◌, map, drop, get_or, length, refl, sym, ap, subst, ◌∙◌, arith, Option, Some, None}
+use Rattle.std.specs.Prelude.{option_map}
 use Rattle.std.specs.Str.{bytes_eq}
 use Rattle.std.specs.List.{All}
 use Rattle.std.proofs.lemmas.Bool.{cases_lt}
 use Rattle.std.proofs.lemmas.Int.{ints}
 use Rattle.std.proofs.lemmas.List.Elements.{All-nil, All-cons}
-use Rattle.indexmap.specs.IndexMap.{set_value_at}
 use Rattle.base_core.proofs.SetLemmas.{Ascends-from_sorted}
 use Rattle.value_core.specs.Values.{Name, Row, IsRelation, row_cmp}
 use Rattle.log_times.specs.Kept.{PlainLog, log_relation, IsLog}
 use Rattle.log_times.specs.Logs.{closed, moved, standing, open_end, IsStored}
-use Rattle.log_times.specs.Told.{value_after}
 use Rattle.log_times.proofs.TurnLemmas.{idle}
 use Rattle.log_turns.proofs.ValueLemmas.{value-standing}
 use Rattle.tree_core.specs.declared.relvar.Relvar.{Relvar}

@@ -3,7 +3,7 @@
 --     are_each_few      whether each log has no more rows than a relation may have
 --     IsCountedAs      so many rows a log has after one statement more
 --     left_of      what is left of a number, if it is not too small
-use Rattle.std.specs.Prelude.{◌≡◌, ℕ, ◌+◌, ◌-◌, ◌≤◌, nat_le, Bool, List, [], ◌∷◌, length, Option, Some, None, if◌then◌else◌}
+use Rattle.std.specs.Prelude.{◌≡◌, ℕ, ◌+◌, ◌-◌, ◌≤◌, nat_le, Bool, [], ◌∷◌, length, Option, Some, None, if◌then◌else◌}
 use Rattle.std.specs.List.{list_all}
 use Rattle.value_core.specs.Values.{most_rows}
 use Rattle.tree_core.specs.Relvars.{PlainRelvar, base, view, log, Entries}

@@ -68,19 +68,14 @@ fn rows_at(relvars: &Relvars, next: &[Option<Log>], at: usize) -> usize
     ensures { IsSoAt at (IsCountedAs behind.1 result) (read_relvars relvars.now).relvars }
 {
     match relvars.list.get_index(at) {
-        Some((_, relvar)) => rows_of(relvar, next_at(next, at)),
+        Some((_, relvar)) => {
+            if at < next.len() {
+                return rows_of(relvar, &next[at]);
+            }
+            rows_of(relvar, &None)
+        }
         None => unreachable!(),
     }
-}
-
-// What stands ready for the entry at a place.
-fn next_at(next: &[Option<Log>], at: usize) -> &Option<Log>
-    ensures { result.now ≡ get_or next.now at None }
-{
-    if at < next.len() {
-        return &next[at];
-    }
-    &None
 }
 
 // How many rows the relvar has as a log, with what stands ready for it.

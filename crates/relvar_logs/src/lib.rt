@@ -2,7 +2,11 @@
 #![tactic(auto)]
 
 mod counting;
+mod next;
+mod opening;
 mod turning;
 
 pub use counting::{has_log, room_beside};
+pub use next::next_logs;
+pub use opening::first_log;
 pub use turning::{count, turn_first};

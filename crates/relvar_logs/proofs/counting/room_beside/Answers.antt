@@ -1,4 +1,4 @@
-use Rattle.std.proofs.Common.{◌≡◌, ◌≤◌, ◌<◌, ◌+◌, ◌-◌, ℕ, suc, length, map, sym, subst, ap, ◌∙◌, arith, drop}
+use Rattle.std.proofs.Common.{◌≡◌, ◌≤◌, ◌<◌, ◌+◌, ◌-◌, ℕ, suc, length, map, subst, ap, ◌∙◌, arith, drop}
 use Rattle.tree_core.specs.Relvars.{read_entry}
 use Rattle.meaning_core.specs.Logs.{turned_relvar}
 use Rattle.relvar_logs.specs.Changes.{IsSoAt}

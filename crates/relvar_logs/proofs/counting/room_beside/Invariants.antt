@@ -1,4 +1,4 @@
-use Rattle.std.proofs.Common.{◌≡◌, ◌<◌, ◌≤◌, ℕ, drop, length, map}
+use Rattle.std.proofs.Common.{◌≡◌, ◌<◌, ℕ, drop, map}
 use Rattle.tree_core.specs.Relvars.{read_relvars}
 use Rattle.meaning_core.specs.Logs.{turned_relvar}
 use Rattle.relvar_logs.specs.Changes.{IsSoAt}

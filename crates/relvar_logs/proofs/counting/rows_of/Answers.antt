@@ -1,5 +1,5 @@
-use Rattle.std.proofs.Common.{◌≡◌, ◌-ℤ◌, ap, sym, subst, ◌∙◌, length, Option}
-use Rattle.value_core.specs.Values.{Row, Relation, IsRelation}
+use Rattle.std.proofs.Common.{◌≡◌, ap, sym, subst, ◌∙◌, length, Option}
+use Rattle.value_core.specs.Values.{Relation, IsRelation}
 use Rattle.log_times.specs.Kept.{PlainLog, log_relation}
 use Rattle.tree_core.specs.declared.relvar.Relvar.{Relvar}
 use Rattle.tree_core.specs.Relvars.{log, read_relvar}

@@ -1,4 +1,4 @@
-use Rattle.std.proofs.Common.{◌≡◌, ◌≤◌, ◌<◌, ◌+◌, ◌<ℤ◌, ◌-ℤ◌, ℕ, ℤ, suc, pos, None, get_or, length, map, sym, subst, ap, ◌∙◌, arith, Option, w64, to_z, of_z}
+use Rattle.std.proofs.Common.{◌≡◌, ◌≤◌, ◌<◌, ◌+◌, ◌<ℤ◌, ◌-ℤ◌, ℕ, ℤ, suc, pos, length, map, sym, subst, ap, ◌∙◌, arith, Option, w64, to_z, of_z}
 use Rattle.std.proofs.lemmas.Int.{to_z-of_z}
 use Rattle.point_core.specs.Whole.{greatest_whole}
 use Rattle.log_times.specs.Kept.{PlainLog}
@@ -37,11 +37,9 @@ loop-at-preserved g c =
     let below : at < c.args.count = omega arith in
     let one : suc at ≡ at + 1 = omega arith in
     let i = c.loop-at.invariant in
-    let number : to_z w64 (of_z w64 c.args.number) ≡ c.args.number = to_z-of_z w64 c.args.number c.ranges.number in
-    let here = subst (λ (k : ℤ). IsSoAt at (IsInStep k g.all) (map read_entry c.turn_at.new.relvars.list.entries)) number c.turn_at.ensures.step in
     record {
       list = c.turn_at.ensures.list ∙ (ap (turned_at at (turned_relvar g.all)) i.list ∙ (first_more g.all es at ∙ ap (λ (k : ℕ). turned_first g.all k es) one));
-      step = more_in_step c.args.number g.all (map read_entry c.loop-at.relvars.list.entries) (map read_entry c.turn_at.new.relvars.list.entries) at c.turn_at.ensures.list i.step here;
+      step = more_in_step (to_z w64 (of_z w64 c.args.number)) g.all (map read_entry c.loop-at.relvars.list.entries) (map read_entry c.turn_at.new.relvars.list.entries) at c.turn_at.ensures.list i.step c.turn_at.ensures.step;
       next = drop_later c.take_at-log.new.next c.loop-at.next c.args.next.now at c.take_at-log.ensures.behind i.next;
       within = omega (arith, below);
       ordinals = c.turn_at.ensures.ordinals ∙ i.ordinals;
@@ -51,6 +49,8 @@ loop-at-preserved g c =
 
 pub returns-clause-step : goal.returns-clause-step
 returns-clause-step g c =
-    let es = map read_entry c.args.relvars.now.list.entries in
+    let now = map read_entry c.loop-at.relvars.list.entries in
+    let number : to_z w64 (of_z w64 c.args.number) ≡ c.args.number = to_z-of_z w64 c.args.number c.ranges.number in
     let end : c.args.count ≤ c.loop-at.at = omega arith in
-    all_before c.args.number g.all (map read_entry c.loop-at.relvars.list.entries) c.args.count c.loop-at.at end c.loop-at.invariant.step
+    subst (λ (k : ℤ). (i : ℕ) → i < c.args.count → IsSoAt i (IsInStep k g.all) now) number
+    (all_before (to_z w64 (of_z w64 c.args.number)) g.all now c.args.count c.loop-at.at end c.loop-at.invariant.step)
