@@ -18,6 +18,7 @@ pub mod InTurnLemmas
 pub mod ItemLemmas
 pub mod LeaningLemmas
 pub mod LeavingLemmas
+pub mod LogLemmas
 pub mod MergingLemmas
 pub mod NameLemmas
 pub mod NewRowLemmas
