@@ -45,7 +45,7 @@ with_added s (ordinal_type name values) = no_more s.relvars
 with_added s (base_relvar name heading constraints) = refl
 with_added s (view_relvar name t history) = refl
 
-declared_added : (s : State) (ds : List PlainDeclaration) → (declared s ds).relvars ≡ s.relvars ++ all_added ds
+pub declared_added : (s : State) (ds : List PlainDeclaration) → (declared s ds).relvars ≡ s.relvars ++ all_added ds
 declared_added s [] = no_more s.relvars
 declared_added s (d ∷ ds) =
     declared_added (with_declaration s d) ds ∙ (ap (λ (z : Entries). z ++ all_added ds) (with_added s d) ∙ in_turn s.relvars (added d) (all_added ds))

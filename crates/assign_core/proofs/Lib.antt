@@ -38,5 +38,6 @@ pub mod RemovedLemmas
 pub mod RuleLemmas
 pub mod SourceLemmas
 pub mod StateLemmas
+pub mod StepLemmas
 pub mod ToldLemmas
 pub mod TouchLemmas

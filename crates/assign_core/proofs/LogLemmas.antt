@@ -4,7 +4,7 @@
 --     assigned_without_logs, assigned_after      assignments where there is no log, and those that are accepted
 --     refused_full      why assignments are refused before the database constraints are asked
 --     next_changed, rows_changed      logs beside new values
-use Rattle.std.proofs.Common.{◌≡◌, ℕ, ◌+◌, ◌≤◌, ℤ, pos, ◌+ℤ◌, Bool, true, false, cond, nat_le, List, [], ◌∷◌, ◌++◌, map, length, refl, sym, ap, ◌∙◌, subst, arith, true≢false, Option, Some, None, Result, Ok, Err}
+use Rattle.std.proofs.Common.{◌≡◌, ℕ, zero, suc, ◌+◌, ◌-◌, ◌<◌, ◌≤◌, ℤ, pos, ◌+ℤ◌, Bool, true, false, cond, nat_le, List, [], ◌∷◌, ◌++◌, map, length, refl, sym, ap, ◌∙◌, subst, arith, true≢false, Option, Some, None, Result, Ok, Err}
 use Rattle.std.specs.Prelude.{◌&&◌, ◌||◌}
 use Rattle.std.specs.List.{All}
 use Rattle.std.specs.Str.{bytes_eq}
@@ -13,12 +13,16 @@ use Rattle.std.proofs.lemmas.Bool.Decides.{nat_tests}
 use Rattle.std.proofs.lemmas.List.Elements.{All-nil, All-cons, All-head, All-tail}
 use Rattle.base_core.specs.Outcomes.{then_give}
 use Rattle.point_core.specs.declared.fault.Code.TheVariants.{E46}
+use Rattle.point_core.specs.declared.fault.Stop.{Stop}
+use Rattle.point_core.specs.declared.fault.Stop.TheVariants.{Fault as Faulted, Memory as OfMemory}
 use Rattle.point_core.specs.Faults.{OrFault}
 use Rattle.value_core.specs.Limits.{most_rows_in_all}
 use Rattle.value_core.specs.declared.constraint.Constraint.{Constraint}
 use Rattle.value_core.specs.declared.refuse.Refuse.{Refuse}
 use Rattle.value_core.specs.declared.refuse.Refuse.TheVariants.{Plain, At, Broken, Memory}
+use Rattle.value_core.specs.Refusals.{refusal_of}
 use Rattle.value_core.specs.Values.{Name, Relation, most_rows}
+use Rattle.scalar_core.specs.Answers.{Gives}
 use Rattle.log_times.specs.Kept.{PlainLog}
 use Rattle.tree_core.specs.declared.declaration.LogData.{LogData}
 use Rattle.tree_core.specs.Items.{PlainAssignment}
@@ -35,11 +39,13 @@ use Rattle.meaning_core.proofs.LogLemmas.{truth-turned, turned-none}
 use Rattle.meaning_core.proofs.RowlessLemmas.{bare, bare_all}
 use Rattle.u_constraints.specs.Constraints.{names_relvar, rows_or_none}
 use Rattle.relvar_logs.specs.Changes.{Changes, IsChange, AreChanges, changed_relvar, changed}
-use Rattle.relvar_logs.specs.Room.{are_each_few, log_count, rows_of_logs}
-use Rattle.relvar_logs.specs.Turning.{IsNext, AreNext}
+use Rattle.relvar_logs.specs.Room.{are_each_few, left_of, log_count, rows_of_logs}
+use Rattle.relvar_logs.specs.Turning.{IsNext, AreNext, IsFull}
 use Rattle.assign_core.specs.Assignments.{seen_by, source_value, with_target, evaluated, unless_broken, kept_or_refused, of_values, after_assignments, unless_rule_broken, assigned_in, IsRefusedFor}
 use Rattle.assign_core.specs.Breaches.{value_of, value_if, value_at, or_later, rows_of_all, rows_named, first_in, first_among, first_broken, first_rule_broken}
 use Rattle.assign_core.specs.Databases.{IsKept}
+use Rattle.assign_core.specs.declared.hashed.Hashed.{Hashed}
+use Rattle.assign_core.specs.Hashed.{AreHashed, AreHashesAt, AreHashesIn}
 use Rattle.assign_core.specs.Logs.{have_room, if_room, unless_full}
 use Rattle.assign_core.proofs.DeclaredLemmas.{kept_more, rows_of_both, rules_stay, same_among}
 
@@ -136,14 +142,12 @@ step-none n all (base value constraints) none = tt
 step-none n all (view t history) none = tt
 step-none n all (log of side last w) none = absurd (true≢false none)
 
-pub alone_in_step : (n : ℤ) (es : Entries) → has_log es ≡ false → AreInStep n es
-alone_in_step n es none = from es none
-  where
-    from : (fs : Entries) → has_log fs ≡ false → All (λ r. IsInStep n es r.1) fs
-    from [] h = All-nil (λ r. IsInStep n es r.1)
-    from (f ∷ fs) h =
-        let parts = or_parts (is_log f.1) (has_log fs) h in
-        All-cons (λ r. IsInStep n es r.1) f fs (step-none n es f.1 parts.0) (from fs parts.1)
+-- entries without a log are in step with any others
+pub alone_in_step : (n : ℤ) (all es : Entries) → has_log es ≡ false → All (λ r. IsInStep n all r.1) es
+alone_in_step n all [] h = All-nil (λ r. IsInStep n all r.1)
+alone_in_step n all (e ∷ es) h =
+    let parts = or_parts (is_log e.1) (has_log es) h in
+    All-cons (λ r. IsInStep n all r.1) e es (step-none n all e.1 parts.0) (alone_in_step n all es parts.1)
 
 given-log : (o : Option Name) (v : Option Relation) (e : Name × PlainRelvar) → is_log (given_relvar o v e.0 e.1) ≡ is_log e.1
 given-log None v e = refl
@@ -279,3 +283,108 @@ pub few_changed : (all : Entries) (cs : Changes) (es : Entries) → are_each_few
 few_changed all [] es = refl
 few_changed all (c ∷ cs) [] = refl
 few_changed all (c ∷ cs) (e ∷ es) = λ i. nat_le (count-one all c e.1 i) most_rows && few_changed all cs es i
+
+-- ---- room
+
+same-tests : (R L most : ℕ) (a b : Bool) → L ≤ most → nat_le R (most - L) ≡ a → nat_le (R + L) most ≡ b → a ≡ b
+same-tests R L most true true l e f = refl
+same-tests R L most false false l e f = refl
+same-tests R L most true false l e f =
+    let m : R ≤ (most - L) = grind (arith, nat_tests) in
+    let k : most < (R + L) = grind (arith, nat_tests) in
+    absurd (omega (arith, l, m, k))
+same-tests R L most false true l e f =
+    let m : (most - L) < R = grind (arith, nat_tests) in
+    let k : (R + L) ≤ most = grind (arith, nat_tests) in
+    absurd (omega (arith, l, m, k))
+
+pub fits : (R L room most : ℕ) → Some room ≡ left_of most L → nat_le R room ≡ nat_le (R + L) most
+fits R L room most e = by (nat_le L most) refl e
+  where
+    by : (b : Bool) → nat_le L most ≡ b → Some room ≡ cond b (Some (most - L)) None → nat_le R room ≡ nat_le (R + L) most
+    by true q f =
+        let l : L ≤ most = grind (arith, nat_tests) in
+        let same : room ≡ most - L = cc in
+        ap (nat_le R) same ∙ same-tests R L most (nat_le R (most - L)) (nat_le (R + L) most) l refl refl
+    by false q f = absurd (cc)
+
+pub fits_not : (R L most : ℕ) → None ≡ left_of most L → nat_le (R + L) most ≡ false
+fits_not R L most e = by (nat_le L most) (nat_le (R + L) most) refl refl e
+  where
+    by : (b d : Bool) → nat_le L most ≡ b → nat_le (R + L) most ≡ d → None ≡ cond b (Some (most - L)) None → d ≡ false
+    by true d q r f = absurd (cc)
+    by false false q r f = refl
+    by false true q r f =
+        let m : most < L = grind (arith, nat_tests) in
+        let k : (R + L) ≤ most = grind (arith, nat_tests) in
+        absurd (omega (arith, m, k))
+
+-- the room that new values leave, by the logs as they are among the old ones
+pub room_changed : (cs : Changes) (es : Entries) → have_room (turned_logs (changed cs es))
+    ≡ (nat_le (rows_of_all (changed cs es) + rows_of_logs (turned (changed cs es) es)) most_rows_in_all && are_each_few (turned (changed cs es) es))
+room_changed cs es =
+    let new = changed cs es in
+    λ i. nat_le (rows_turned new i + rows_changed new cs es i) most_rows_in_all && few_changed new cs es i
+
+and-false : (b : Bool) → (b && false) ≡ false
+and-false true = refl
+and-false false = refl
+
+not-room : (new : Entries) → have_room (turned_logs new) ≡ false → if_room new ≡ Err (Plain E46)
+not-room new e = ap (λ (b : Bool). cond b (Ok new) (Err (Plain E46))) e
+
+pub full_refused : (cs : Changes) (es : Entries) (refuse : Refuse) → IsFull (changed cs es) es refuse → IsRefusedFor refuse (if_room (changed cs es))
+full_refused cs es (Plain code) h =
+    let new = changed cs es in
+    let none : have_room (turned_logs new) ≡ false =
+    room_changed cs es ∙ (ap (λ (b : Bool). nat_le (rows_of_all new + rows_of_logs (turned new es)) most_rows_in_all && b) h.1 ∙ and-false (nat_le (rows_of_all new + rows_of_logs (turned new es)) most_rows_in_all)) in
+    not-room new none ∙ ap (λ c. Err (Plain c)) (sym h.0)
+full_refused cs es (At fault) h = absurd h
+full_refused cs es (Broken code relvar number) h = absurd h
+full_refused cs es Memory h = tt
+
+pub no_room_refused : (new : Entries) → have_room (turned_logs new) ≡ false → IsRefusedFor (Plain E46) (if_room new)
+no_room_refused new e = not-room new e
+
+-- ---- what is refused of assignments, with logs
+
+pub fault_full : (es last : Entries) (list : List PlainAssignment) (stop : Stop) → Gives (λ (done : List (Option Relation)). last) (Err stop) (evaluated es es list)
+    → IsRefusedFor (refusal_of stop) (unless_full (evaluated es es list) (after_assignments es list))
+fault_full es last list (Faulted f) told = ap (λ (r : OrFault Entries). unless_full r (of_values r)) told
+fault_full es last list OfMemory told = tt
+
+room-refused : (refuse : Refuse) (new : Entries) (meant : Result Entries Refuse) (b : Bool) → IsRefusedFor refuse (cond b (Ok new) (Err (Plain E46))) → IsRefusedFor refuse (cond b meant (Err (Plain E46)))
+room-refused (Plain code) new meant true h = absurd (cc)
+room-refused (At fault) new meant true h = absurd (cc)
+room-refused (Broken code relvar number) new meant true h = absurd (cc)
+room-refused Memory new meant true h = tt
+room-refused refuse new meant false h = h
+
+pub room_full : (es new : Entries) (list : List PlainAssignment) (refuse : Refuse) → evaluated es es list ≡ Ok new → IsRefusedFor refuse (if_room new)
+    → IsRefusedFor refuse (unless_full (evaluated es es list) (after_assignments es list))
+room_full es new list refuse e h =
+    subst (λ (r : OrFault Entries). IsRefusedFor refuse (unless_full r (of_values r))) (sym e) (room-refused refuse new (kept_or_refused new) (have_room (turned_logs new)) h)
+
+pub admitted_full : (es new : Entries) (list : List PlainAssignment) (refuse : Refuse) → evaluated es es list ≡ Ok new → have_room (turned_logs new) ≡ true → IsRefusedFor refuse (kept_or_refused new)
+    → IsRefusedFor refuse (unless_full (evaluated es es list) (after_assignments es list))
+admitted_full es new list refuse e room h =
+    subst (λ (r : OrFault Entries). IsRefusedFor refuse (unless_full r (of_values r))) (sym e) (subst (λ (b : Bool). IsRefusedFor refuse (cond b (kept_or_refused new) (Err (Plain E46)))) (sym room) h)
+
+-- what is meant, where there is room
+pub with_room : (es new : Entries) (list : List PlainAssignment) (meant : Result Entries Refuse) → evaluated es es list ≡ Ok new → have_room (turned_logs new) ≡ true → unless_full (evaluated es es list) meant ≡ meant
+with_room es new list meant e room = ap (λ (r : OrFault Entries). unless_full r meant) e ∙ ap (λ (b : Bool). cond b meant (Err (Plain E46))) room
+
+-- ---- hashes
+
+hashes-turned : (all : Entries) (i : ℕ) (ms : List HashList) (es : Entries) → AreHashesAt i ms es → AreHashesAt i ms (turned all es)
+hashes-turned all i ms [] h = tt
+hashes-turned all zero ms (e ∷ es) h = one e.1 h
+  where
+    one : (r : PlainRelvar) → AreHashesIn ms r → AreHashesIn ms (turned_relvar all r)
+    one (base value constraints) k = k
+    one (view t history) k = tt
+    one (log of side last w) k = tt
+hashes-turned all (suc i) ms (e ∷ es) h = hashes-turned all i ms es h
+
+pub hashed_turned : (m : Hashed) (es : Entries) → AreHashed m es → AreHashed m (turned_logs es)
+hashed_turned m es h k d l = hashes-turned es _ _ es (h k d l)

@@ -1,4 +1,5 @@
 -- Logs that stand ready for the next statement.
+--     base_before      a base relvar among more entries
 --     of_base_there      a log is that of a base relvar
 --     change_found, change_absent      the rows of a relvar with its new value, and without one
 --     ready_log, idle_log, too_long      a log with the next statement, one whose relvar stays, and one that would have too many rows
@@ -39,8 +40,8 @@ use Rattle.relvar_logs.proofs.EntryLemmas.{so_put}
 
 -- ---- logs of base relvars
 
-base-before : (before more : Entries) (name : Name) → IsBase (relvar_named before name) → relvar_named (before ++ more) name ≡ relvar_named before name
-base-before before more name h = by (relvar_named before name) refl h
+pub base_before : (before more : Entries) (name : Name) → IsBase (relvar_named before name) → relvar_named (before ++ more) name ≡ relvar_named before name
+base_before before more name h = by (relvar_named before name) refl h
   where
     by : (o : Option PlainRelvar) → relvar_named before name ≡ o → IsBase o → relvar_named (before ++ more) name ≡ relvar_named before name
     by None e b = absurd b
@@ -50,7 +51,7 @@ of-base : (sizes : List ℕ) (before more : Entries) (own : Name) (r : PlainRelv
 of-base sizes before more own (base value constraints) is = tt
 of-base sizes before more own (view t history) is = tt
 of-base sizes before more own (log of side last value) is =
-    let same = base-before before more of is.1.0 in
+    let same = base_before before more of is.1.0 in
     (subst IsBase (sym same) is.1.0, is.1.2 ∙ ap heading_if (sym same))
 
 of-base-from : (sizes : List ℕ) (before es : Entries) (i : ℕ) → AreRelvars sizes before es → i < length es → IsSoAt i (IsOfBase (before ++ es)) es

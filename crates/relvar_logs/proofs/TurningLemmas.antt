@@ -2,6 +2,7 @@
 --     next_there, later_there, earlier_there      what stands ready for an entry, and what is so of one, while logs before it are turned
 --     first_more, first_all      one log more, and all
 --     idle_turned      a log whose relvar stays
+--     all_there      what is so at each place is so of all
 --     all_in_step      each log tells its relvar's rows when all are turned
 use Rattle.std.proofs.Common.{◌≡◌, inl, inr, true, false, cond, ℕ, zero, suc, ◌+◌, ◌<◌, ◌≤◌, ℤ, pos, ◌+ℤ◌, ◌-ℤ◌, ◌<ℤ◌, List, [], ◌∷◌, map, drop, get_or, length, refl, sym, ap, subst, ◌∙◌, arith, Option, Some, None}
 use Rattle.std.specs.Prelude.{option_map}
@@ -151,14 +152,14 @@ step-turned n all (base value constraints) h = tt
 step-turned n all (view t history) h = tt
 step-turned n all (log of side last value) h = (h.0, h.1 ∙ sym (rows-turned all of))
 
-all-there : (P : PlainRelvar → Type 0) (es : Entries) → ((i : ℕ) → i < length es → IsSoAt i P es) → All (λ r. P r.1) es
-all-there P [] h = All-nil (λ r. P r.1)
-all-there P (e ∷ es) h = All-cons (λ r. P r.1) e es (h 0 (omega arith)) (all-there P es (λ i l. h (suc i) (omega (arith, l))))
+pub all_there : (P : PlainRelvar → Type 0) (es : Entries) → ((i : ℕ) → i < length es → IsSoAt i P es) → All (λ r. P r.1) es
+all_there P [] h = All-nil (λ r. P r.1)
+all_there P (e ∷ es) h = All-cons (λ r. P r.1) e es (h 0 (omega arith)) (all_there P es (λ i l. h (suc i) (omega (arith, l))))
 
 pub all_in_step : (n : ℤ) (all es : Entries) → es ≡ turned_logs all → ((i : ℕ) → i < length es → IsSoAt i (IsInStep n all) es) → AreInStep n es
 all_in_step n all es e h =
     subst (λ (z : Entries). All (λ r. IsInStep n z r.1) es) (sym e)
-    (all-there (IsInStep n (turned_logs all)) es (λ i l. so_weaker es i (IsInStep n all) (IsInStep n (turned_logs all)) (step-turned n all) (h i l)))
+    (all_there (IsInStep n (turned_logs all)) es (λ i l. so_weaker es i (IsInStep n all) (IsInStep n (turned_logs all)) (step-turned n all) (h i l)))
 
 -- the list of entries after all have been turned
 pub all_turned : (es fs : List (Name × Relvar)) (count : ℕ) → count ≡ length es → map read_entry fs ≡ turned_first (map read_entry es) count (map read_entry es)
