@@ -2,21 +2,26 @@
 --     swept_list      the attributes on which a change works point by point
 --     IsTypedItem      of items: the target is a base relvar of the item's heading, or the view of a history, and its parts are typed
 --     IsTypedAssignment      of assignments: the target is a base relvar, and the expression has its heading
-use Rattle.std.specs.Prelude.{◌≡◌, ℕ, Bool, not, true, ◌&&◌, List, [], ◌∷◌, map, Option, Some, None, IsTrue}
+--     IsTypedLog      of logs: one of a base relvar, whose heading has room for the attribute of statements, can be opened
+use Rattle.std.specs.Prelude.{◌≡◌, ℕ, ◌<◌, Bool, not, true, false, ◌&&◌, List, [], ◌∷◌, map, length, Option, Some, None, IsTrue}
 use Rattle.std.specs.List.{list_all, list_any, All}
 use Rattle.value_core.specs.declared.kind.Kind.TheVariants.{Truth}
 use Rattle.value_core.specs.Attributes.{among}
 use Rattle.value_core.specs.declared.constraint.HistoryRule.{HistoryRule}
+use Rattle.value_core.specs.Headings.{has_name}
+use Rattle.value_core.specs.Limits.{most_attributes}
 use Rattle.value_core.specs.Values.{Name, Heading}
 use Rattle.scalar_core.specs.Expressions.{Expr}
 use Rattle.relation_core.specs.Agreement.{position_of}
 use Rattle.relation_core.specs.Parts.{kind_at}
+use Rattle.tree_core.specs.declared.declaration.LogData.{LogData}
 use Rattle.tree_core.specs.Relvars.{State, relvar_named, heading_if}
 use Rattle.tree_core.specs.Trees.{PlainSets, heading_of}
 use Rattle.tree_core.specs.Items.{PlainPortion, PlainChange, PlainItemForm, set_to, insert, delete, delete_rows, update, terminate, PlainItem, PlainAssignment}
+use Rattle.meaning_core.specs.Declarations.{with_log}
 use Rattle.meaning_core.specs.Typing.{IsScalar, IsExtension, IsList, IsListIf, is_span, is_swept}
 use Rattle.meaning_core.specs.Endings.{history_of, rule_of}
-use Rattle.meaning_core.specs.WellMade.{IsBase, IsTypedFor, sizes_of}
+use Rattle.meaning_core.specs.WellMade.{IsBase, IsTypedFor, IsWellMade, sizes_of}
 
 -- ---- changes of rows
 
@@ -99,3 +104,12 @@ pub record IsTypedAssignment (s : State) (a : PlainAssignment) : Type 0 where
   pub base : IsBase (relvar_named s.relvars a.target)
   pub headed : heading_of a.tree ≡ heading_if (relvar_named s.relvars a.target)
   pub typed : IsTypedFor s a.tree
+
+-- ---- logs
+
+-- a log can be opened: its relvar is a base relvar with room for one attribute more, which has none of that name
+pub record IsTypedLog (s : State) (d : LogData) : Type 0 where
+  pub base : IsBase (relvar_named s.relvars d.of)
+  pub few : length (heading_if (relvar_named s.relvars d.of)) < most_attributes
+  pub new : has_name (heading_if (relvar_named s.relvars d.of)) d.attribute ≡ false
+  pub made : IsWellMade (with_log s d)

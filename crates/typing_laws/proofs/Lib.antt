@@ -7,7 +7,6 @@ mod RowsElsewhere
 mod SweepsElsewhere
 mod NodesElsewhere
 mod UsingsElsewhere
-mod NodeNames
 pub mod TreesElsewhere
 pub mod SaysElsewhere
 pub mod SaysMore

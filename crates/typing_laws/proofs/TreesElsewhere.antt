@@ -33,7 +33,7 @@ use Rattle.row_typing_laws.proofs.ElsewhereLiterals.{literal-follows}
 use Rattle.row_typing_laws.proofs.ElsewhereNames.{word-follows}
 use Rattle.row_typing_laws.proofs.Parts.{given-follows, parts-of, joined-of}
 use Rattle.typing_laws.proofs.SameGiven.{ok-same}
-use Rattle.typing_laws.proofs.NodeNames.{given-of, infix-names, projection-names, renaming-names, packing-names, restriction-names, extension-names, summary-names, using-infix-names, using-projection-names, using-restriction-names, using-extension-names, using-summary-names, comparison-names, using-comparison-names, emptiness-names}
+use Rattle.tree_typing.proofs.NodeNames.{given-of, infix-names, projection-names, renaming-names, packing-names, restriction-names, extension-names, summary-names, using-infix-names, using-projection-names, using-restriction-names, using-extension-names, using-summary-names, comparison-names, using-comparison-names, emptiness-names}
 use Rattle.typing_laws.proofs.NodesElsewhere.{infix-follows, projection-follows, renaming-rule-follows, restriction-follows, extension-rule-follows, summary-follows, packing-follows, comparison-follows, using-comparison-follows, emptiness-moved}
 use Rattle.typing_laws.proofs.UsingsElsewhere.{using-infix-follows, using-projection-follows, using-restriction-follows, using-extension-follows, using-summary-follows}
 
