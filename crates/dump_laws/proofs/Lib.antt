@@ -18,6 +18,7 @@ pub mod AcceptingLaws
 pub mod OrderLaws
 pub mod LikeEntries
 pub mod PlaceLemmas
+pub mod LoggedLaws
 pub mod StandingLaws
 pub mod KnownLaws
 pub mod SaidTexts

@@ -263,6 +263,7 @@ none-made = record {
   relvars = tt;
   few_rules = omega arith;
   rules = All-nil _;
+  apart = All-nil _;
 }
 
 none-run : IsStanding no_relvars [] []

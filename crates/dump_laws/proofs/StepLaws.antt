@@ -1,5 +1,5 @@
 -- What is asked of a state before a text is declared anew.
---     entries-number      how many relvars and views are said
+--     entries-number      how many relvars and views are said at most
 --     has-room      what is said stays below the limits, by numbers
 --     entry-typed      an entry of the final state is well made behind those before it
 --     view-typed, rule-typed      a view and a database constraint that are said are typed for the final state
@@ -55,12 +55,12 @@ module _ (w : State) (ds : List Said) (made : IsMadeOf w ds) (well : IsWellMade 
   abbrev all_said : List Said
   all_said = in_script_order ds
 
-  pub entries-number : length (flat_map entries_said all_said) ≡ length w.relvars
+  pub entries-number : length (flat_map entries_said all_said) ≤ length w.relvars
   entries-number =
       let whole = ap length (order-entries w ds made) in
       let both = length-append (map emptied (filter is_early w.relvars)) (filter is_late w.relvars) in
       let first = length-map (filter is_early w.relvars) emptied in
-      let parts = parts-length is_early w.relvars in
+      let parts = parts-length w.relvars in
       omega (arith, whole, both, first, parts)
 
   -- ---- what is said is typed

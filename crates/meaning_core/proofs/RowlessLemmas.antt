@@ -52,7 +52,8 @@ over-bare known (r ∷ rest) =
 -- the same names stand for logs and views over logs
 pub over-keeps : (entries old : Entries) → bare_all entries ≡ bare_all old → over_log entries ≡ over_log old
 over-keeps entries old e =
-    ap (λ (ks : List (Name × Bool)) name. found false ks name) (sym (over-bare [] entries) ∙ (ap (each_after is_over_log []) e ∙ over-bare [] old))
+    let standing : List (Name × Bool) → Name → Bool = λ ks name. found false ks name in
+    ap standing (sym (over-bare [] entries) ∙ (ap (each_after is_over_log []) e ∙ over-bare [] old))
 
 -- ---- what is looked up in them
 
