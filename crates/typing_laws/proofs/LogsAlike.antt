@@ -26,7 +26,9 @@ one-over known there out (base v c) (view u g) like agree none = absurd like
 one-over known there out (base v c) (log o i last w) like agree none = absurd like
 one-over known there out (view t h) (base u d) like agree none = absurd like
 one-over known there out (view t h) (log o i last w) like agree none = absurd like
-one-over known there out (log o i last w) y like agree none = ap (is_over_log there) (sym like)
+one-over known there out (log o i last w) (base u d) like agree none = absurd like
+one-over known there out (log o i last w) (view u g) like agree none = absurd like
+one-over known there out (log o i last w) (log p j n v) like agree none = refl
 one-over known there out (view t h) (view u g) like agree none =
     names-alike out (found false known) (found false there) agree t none
     ∙ (sym (names-moved like.0.0 (found false there) t) ∙ ap (names_any (found false there)) (sym like.0.1))
