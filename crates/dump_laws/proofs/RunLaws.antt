@@ -19,6 +19,7 @@ use Rattle.utd_syntax.specs.Plain as syntax
 use Rattle.utd_syntax.specs.Plain.{Word, StatementP}
 use Rattle.utd_lexer.specs.Gaps.{without_gaps}
 use Rattle.relation_typing.specs.Attributes.{name_typed}
+use Rattle.tree_core.specs.declared.declaration.LogData.{LogData}
 use Rattle.tree_core.specs.Items.{PlainItem}
 use Rattle.tree_core.specs.Relvars.{State, Entries, relvar_named}
 use Rattle.tree_core.specs.Trees.{Tree, Test}
@@ -26,7 +27,7 @@ use Rattle.tree_core.specs.Uses.{is_one_of}
 use Rattle.dump_core.specs.declared.texts.TextKind.{TextKind}
 use Rattle.dump_core.specs.declared.texts.TextKind.TheVariants.{Early, Rule}
 use Rattle.dump_core.specs.Texts.{SourceText, forgotten}
-use Rattle.meaning_core.specs.Declarations.{group, without_group, without_rule, with_rule}
+use Rattle.meaning_core.specs.Declarations.{group, without_group, without_rule, with_rule, with_log}
 use Rattle.meaning_core.specs.Truths.{holds_in, truth_in}
 use Rattle.meaning_core.specs.Updates.{IsTypedItem}
 use Rattle.meaning_core.specs.WellMade.{IsWellMade}
@@ -37,6 +38,7 @@ use Rattle.row_typing_laws.proofs.HeadingNames.{name-written}
 use Rattle.row_typing_laws.proofs.Parts.{parts-of, check-holds}
 use Rattle.tree_typing.specs.Trees.{tree_typed, test_typed}
 use Rattle.declaration_typing.specs.Drops.{is_of_history, is_used, dropped}
+use Rattle.declaration_typing.specs.Logs.{log_declared}
 use Rattle.declaration_typing.specs.Names.{is_rule}
 use Rattle.declaration_typing.specs.Rules.{rule_dropped}
 use Rattle.item_typing.specs.Items.{assignment_typed}
@@ -60,7 +62,8 @@ use Rattle.text_laws.specs.Statements.{IsOneStatement}
 use Rattle.dump_laws.specs.Kept.{IsTextOf, AreTexts, IsMadeOf, IsSmall}
 use Rattle.dump_laws.proofs.AssignedLaws.{all-typed, assigned-rows}
 use Rattle.dump_laws.proofs.Cuts.{IsOneText, cut-ones}
-use Rattle.dump_laws.proofs.DeclaredLaws.{IsStanding, run-counted, run-more, run-without-group, run-without-rule, run-with-rows}
+use Rattle.dump_laws.proofs.DeclaredLogs.{log-free}
+use Rattle.dump_laws.proofs.DeclaredLaws.{IsStanding, run-counted, run-more, run-with-log, run-without-group, run-without-rule, run-with-rows}
 use Rattle.dump_laws.proofs.OutcomeLaws.{given-same}
 
 -- ---- one statement
@@ -148,6 +151,12 @@ module _ (w : State) (texts : List SourceText) (ds : List Said) (is : IsStanding
         subst (λ (n : Name). IsStanding (without_rule n w) (forgotten word.bytes texts) left.0) same
             (subst (λ (n : Name). IsStanding (without_rule one.0 w) (forgotten n texts) left.0) (sym word_is) left.1),
       )
+
+  -- ---- LOG
+
+  -- a log is declared whose name is free, and for which there is room; its text is not kept
+  log-kept : (bytes : List ℕ) (l source t : Word) (d : LogData) → log_declared w l source t ≡ Ok d → IsWellMade (with_log w d) → IsKeptBy w texts Leaves bytes (Changed (with_log w d))
+  log-kept bytes l source t d e then = let is_new = log-free w l source t d e in (ds, run-with-log w texts ds d is is_new.0 is_new.1 then)
 
   -- ---- declarations
 
