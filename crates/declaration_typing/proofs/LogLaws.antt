@@ -46,6 +46,7 @@ base-declared sizes before ((own, r) ∷ rest) name are = by-test (bytes_eq own 
     here (base value constraints) one is = one.0
     here (view t history) one is = absurd is
     here (log of side last value) one is = absurd is
+
     by-test : (b : Bool) → (IsBase (relvar_named rest name) → IsTrue (is_declared sizes (heading_if (relvar_named rest name)))) → IsBase (cond b (Some r) (relvar_named rest name))
         → IsTrue (is_declared sizes (heading_if (cond b (Some r) (relvar_named rest name))))
     by-test true more is = here r are.0 is

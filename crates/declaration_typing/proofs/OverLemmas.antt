@@ -1,18 +1,21 @@
 -- The names of the logs and of the views over them are those that stand for such.
 --     over-names      the law
-use denote.Ref.{Bor}
+--     none-differ, over-told      of entries as they are read
 use Rattle.std.proofs.Common.{◌≡◌, Bool, true, false, cond, List, [], ◌∷◌, ◌++◌, map, refl, sym, ap, ◌∙◌, subst}
-use Rattle.std.specs.Prelude.{◌||◌}
+use Rattle.std.specs.Prelude.{◌||◌, None, slice_get}
 use Rattle.std.specs.List.{AllByRecursion, IsDistinct}
+use Rattle.std.specs.Map.{keys_of}
 use Rattle.std.specs.Str.{bytes_eq}
 use Rattle.std.proofs.lemmas.List.{map-append}
 use Rattle.base_core.proofs.ListLemmas.{AllByRecursion-push, bytes_eq-sym}
 use Rattle.value_core.specs.Values.{Name}
-use Rattle.tree_core.specs.Relvars.{PlainRelvar, base, view, log, Entries}
+use Rattle.tree_core.specs.declared.relvar.Relvar.{Relvar}
+use Rattle.tree_core.specs.Relvars.{PlainRelvar, base, view, log, Entries, read_entry}
 use Rattle.tree_core.specs.Uses.{is_one_of, names_any}
 use Rattle.meaning_core.specs.Logs.{is_over_log, over_log}
 use Rattle.meaning_core.specs.Names.{found, each_after}
 use Rattle.meaning_core.proofs.MadeLemmas.{same_name}
+use Rattle.declaration_typing.proofs.DistinctLemmas.{no-distinct}
 use Rattle.declaration_typing.specs.Logs.{is_over, with_over, names_behind, names_over}
 
 abbrev Known : Type 0
@@ -62,12 +65,15 @@ one-more names known own b agree new name = by-test (bytes_eq own name) refl
   where
     none : bytes_eq own name ≡ true → IsNew name known
     none e = subst (λ (n : Name). IsNew n known) (same_name own name e) new
+
     by-truth : (t : Bool) → bytes_eq own name ≡ true → is_one_of (cond t (names ++ own ∷ []) names) name ≡ t
     by-truth true e = among-last names own name true e (agree name ∙ found-none known name (none e))
     by-truth false e = agree name ∙ found-none known name (none e)
+
     by-other : (t : Bool) → bytes_eq own name ≡ false → is_one_of (cond t (names ++ own ∷ []) names) name ≡ is_one_of names name
     by-other true e = among-other names own name e
     by-other false e = refl
+
     by-test : (t : Bool) → bytes_eq own name ≡ t → is_one_of (cond b (names ++ own ∷ []) names) name ≡ found false (known ++ (own, b) ∷ []) name
     by-test true e = by-truth b e ∙ sym (found-new known own b name (none e) ∙ ap (λ (t : Bool). cond t b false) e)
     by-test false e = by-other b e ∙ (agree name ∙ sym (found-other known own b name e))
@@ -122,10 +128,20 @@ over-names entries distinct =
     agree-from entries [] [] (new-from entries [] distinct (none-known (map (λ (e : Name × PlainRelvar). e.0) entries))) (λ name. refl) in
     λ i name. agree name i
 
--- ---- as they are listed
+-- ---- as they are read
 
-pub pushed-names : (xs ys : List (Bor Name)) (x : Bor Name) → ys ≡ xs ++ x ∷ [] → map (λ (n : Bor Name). n.now) ys ≡ map (λ (n : Bor Name). n.now) xs ++ x.now ∷ []
-pushed-names xs ys x e = ap (map (λ (n : Bor Name). n.now)) e ∙ map-append (λ (n : Bor Name). n.now) xs (x ∷ [])
+keys-read : (es : List (Name × Relvar)) → keys_of es ≡ map (λ r. r.0) (map read_entry es)
+keys-read [] = refl
+keys-read (e ∷ es) = ap (λ (names : List Name). e.0 ∷ names) (keys-read es)
 
-pub names-same : (xs ys : List (Bor Name)) → xs ≡ ys → map (λ (n : Bor Name). n.now) xs ≡ map (λ (n : Bor Name). n.now) ys
-names-same xs ys e = ap (map (λ (n : Bor Name). n.now)) e
+-- no entries have different names
+pub none-differ : (es : List (Name × Relvar)) → None ≡ slice_get es 0 → IsDistinct bytes_eq (keys_of es)
+none-differ [] none = no-distinct bytes_eq
+none-differ (e ∷ es) none = absurd (cc)
+
+-- where all entries are gone through
+pub over-told : (names : List Name) (left es : List (Name × Relvar)) → IsDistinct bytes_eq (keys_of es) → left ≡ [] → names_behind names (map read_entry left) ≡ names_over (map read_entry es)
+    → is_one_of names ≡ over_log (map read_entry es)
+over-told names left es distinct none all =
+    let same : names ≡ names_over (map read_entry es) = sym (ap (λ (l : List (Name × Relvar)). names_behind names (map read_entry l)) none) ∙ all in
+    ap is_one_of same ∙ over-names (map read_entry es) (subst (IsDistinct bytes_eq) (keys-read es) distinct)

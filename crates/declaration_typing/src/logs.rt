@@ -1,5 +1,8 @@
 // Logs, and what turns on one.
 ghost use Rattle.std.specs.Prelude.{◌≡◌, map, IfOk};
+ghost use Rattle.std.specs.List.{IsDistinct};
+ghost use Rattle.std.specs.Str.{bytes_eq};
+ghost use Rattle.indexmap.specs.IndexMap.{keys};
 ghost use Rattle.scalar_core.specs.Answers.{Gives};
 ghost use Rattle.utd_syntax.specs.Read.{read_name};
 ghost use Rattle.tree_core.specs.Relvars.{read_relvar, read_relvars};
@@ -65,10 +68,23 @@ fn is_over(relvar: &Relvar, names: &[&Name]) -> bool
     }
 }
 
+/// The relvars, views and logs have different names, as a look-up among them tells.
+fn names_differ(relvars: &Relvars)
+    ensures { IsDistinct bytes_eq (keys relvars.now.list) }
+{
+    match relvars.list.first() {
+        Some((name, _)) => {
+            let _ = relvars.list.get_index_of(name);
+        }
+        None => (),
+    }
+}
+
 /// The names of the logs, and of the views that name one, themselves or through views.
 pub(crate) fn over_logs(alloc: Global, relvars: &Relvars) -> Result<Vec<&Name>, Memory>
     ensures { IfOk result (λ v. is_one_of (map (λ n. n.now) v.items) ≡ over_log (read_relvars relvars.now).relvars) }
 {
+    names_differ(relvars);
     let mut names = Vec::new(alloc);
     for (name, relvar) in &relvars.list {
         if is_over(relvar, names.as_slice()) {

@@ -2,14 +2,13 @@
 --     swept_list      the attributes on which a change works point by point
 --     IsTypedItem      of items: the target is a base relvar of the item's heading, or the view of a history, and its parts are typed
 --     IsTypedAssignment      of assignments: the target is a base relvar, and the expression has its heading
---     IsTypedLog      of logs: one of a base relvar, whose heading has room for the attribute of statements, can be opened
-use Rattle.std.specs.Prelude.{◌≡◌, ℕ, ◌<◌, Bool, not, true, false, ◌&&◌, List, [], ◌∷◌, map, length, Option, Some, None, IsTrue}
+--     IsTypedLog      of what LOG declares
+use Rattle.std.specs.Prelude.{◌≡◌, ◌<◌, ℕ, Bool, not, true, false, ◌&&◌, List, [], ◌∷◌, map, length, Option, Some, None, IsTrue}
 use Rattle.std.specs.List.{list_all, list_any, All}
 use Rattle.value_core.specs.declared.kind.Kind.TheVariants.{Truth}
 use Rattle.value_core.specs.Attributes.{among}
 use Rattle.value_core.specs.declared.constraint.HistoryRule.{HistoryRule}
-use Rattle.value_core.specs.Headings.{has_name}
-use Rattle.value_core.specs.Limits.{most_attributes}
+use Rattle.value_core.specs.Headings.{has_name, most_attributes}
 use Rattle.value_core.specs.Values.{Name, Heading}
 use Rattle.scalar_core.specs.Expressions.{Expr}
 use Rattle.relation_core.specs.Agreement.{position_of}
@@ -18,9 +17,9 @@ use Rattle.tree_core.specs.declared.declaration.LogData.{LogData}
 use Rattle.tree_core.specs.Relvars.{State, relvar_named, heading_if}
 use Rattle.tree_core.specs.Trees.{PlainSets, heading_of}
 use Rattle.tree_core.specs.Items.{PlainPortion, PlainChange, PlainItemForm, set_to, insert, delete, delete_rows, update, terminate, PlainItem, PlainAssignment}
-use Rattle.meaning_core.specs.Declarations.{with_log}
 use Rattle.meaning_core.specs.Typing.{IsScalar, IsExtension, IsList, IsListIf, is_span, is_swept}
 use Rattle.meaning_core.specs.Endings.{history_of, rule_of}
+use Rattle.meaning_core.specs.Declarations.{with_log}
 use Rattle.meaning_core.specs.WellMade.{IsBase, IsTypedFor, IsWellMade, sizes_of}
 
 -- ---- changes of rows

@@ -13,3 +13,4 @@ pub mod SaysMore
 pub mod SaidLaws
 pub mod SaidNames
 pub mod NodesAlike
+pub mod LogsAlike
