@@ -42,7 +42,7 @@ use Rattle.declaration_typing.specs.Logs.{log_declared}
 use Rattle.declaration_typing.specs.Names.{is_rule}
 use Rattle.declaration_typing.specs.Rules.{rule_dropped}
 use Rattle.item_typing.specs.Items.{assignment_typed}
-use Rattle.type_check.specs.Checks.{Plain, remove, remove_rule, assign, print, ask, giving, checked, IsTypedPlain}
+use Rattle.type_check.specs.Checks.{Plain, declare_log, remove, remove_rule, assign, print, ask, giving, checked, IsTypedPlain}
 use Rattle.type_check.proofs.CheckLemmas.{checked-typed}
 use Rattle.typing_laws.specs.Saying.{Said, said_ordinal, said_base, said_view, said_history, said_rule, IsDeclaration, plain_of, with_said}
 use Rattle.typing_laws.proofs.SaidLaws.{with-ordinal, with-base, with-view, with-history, with-said-rule}
@@ -158,6 +158,17 @@ module _ (w : State) (texts : List SourceText) (ds : List Said) (is : IsStanding
   log-kept : (bytes : List ℕ) (l source t : Word) (d : LogData) → log_declared w l source t ≡ Ok d → IsWellMade (with_log w d) → IsKeptBy w texts Leaves bytes (Changed (with_log w d))
   log-kept bytes l source t d e then = let is_new = log-free w l source t d e in (ds, run-with-log w texts ds d is is_new.0 is_new.1 then)
 
+  -- or it is refused
+  opened-kept : (bytes : List ℕ) (l source t : Word) (d : LogData) → log_declared w l source t ≡ Ok d → IsWellMade (with_log w d) → (b : Bool) (refuse : Refuse)
+      → IsKeptBy w texts Leaves bytes (if_allowed (cond b (Ok (with_log w d)) (Err refuse)))
+  opened-kept bytes l source t d e then true refuse = log-kept bytes l source t d e then
+  opened-kept bytes l source t d e then false refuse = (ds, is)
+
+  logged-kept : (bytes : List ℕ) (l source t : Word) (r : OrFault LogData) → log_declared w l source t ≡ r → IfOk (giving declare_log r) (IsTypedPlain w)
+      → IsKeptBy w texts Leaves bytes (unless_fault (of_checked w) (giving declare_log r))
+  logged-kept bytes l source t (Ok d) e typed = opened-kept bytes l source t d e typed.made true (Broken E45 d.name 0)
+  logged-kept bytes l source t (Err fault) e typed = (ds, is)
+
   -- ---- declarations
 
   -- the machine makes what is said, or refuses it
@@ -220,7 +231,8 @@ module _ (w : State) (texts : List SourceText) (ds : List Said) (is : IsStanding
       declared-kept place bytes (syntax.DeclareRelvar at v form) (kind_of form) v.bytes text one short tt refl (checked w (syntax.DeclareRelvar at v form)) refl
   tree-kept place bytes (syntax.DeclareHistory at v h key b p d i t) text one short =
       declared-kept place bytes (syntax.DeclareHistory at v h key b p d i t) Early v.bytes text one short tt refl (checked w (syntax.DeclareHistory at v h key b p d i t)) refl
-  tree-kept place bytes (syntax.DeclareLog at log source attribute) text one short = (ds, is)
+  tree-kept place bytes (syntax.DeclareLog at l source attribute) text one short =
+      logged-kept (without_gaps bytes) l source attribute (log_declared w l source attribute) refl (checked-typed w is.made (syntax.DeclareLog at l source attribute))
   tree-kept place bytes (syntax.DeclareRule at v test) text one short =
       declared-kept place bytes (syntax.DeclareRule at v test) Rule v.bytes text one short tt refl (checked w (syntax.DeclareRule at v test)) refl
   tree-kept place bytes (syntax.Drop at v) text one short = drop-kept (without_gaps bytes) v (dropped w v) refl (checked-typed w is.made (syntax.Drop at v))
