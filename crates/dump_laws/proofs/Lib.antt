@@ -8,6 +8,7 @@ pub mod TextLaws
 pub mod EmptiedLaws
 pub mod FollowingLaws
 pub mod DeclaredLaws
+pub mod DeclaredLogs
 pub mod AssignedLaws
 pub mod Cuts
 pub mod RunLaws

@@ -3,7 +3,7 @@
 --     rows-bases, rows-logless      they have the base relvars of the first, and no log
 --     loadable-rows      its rows can come in
 --     rows-taken      the law
-use Rattle.std.proofs.Common.{◌≡◌, ℕ, ◌+◌, true, List, [], refl, sym, ap, ◌∙◌, subst}
+use Rattle.std.proofs.Common.{◌≡◌, ℕ, ◌+◌, true, false, List, [], refl, sym, ap, ◌∙◌, subst}
 use Rattle.std.specs.List.{filter, flat_map}
 use Rattle.point_core.specs.declared.fault.Place.{Place}
 use Rattle.tree_core.specs.Relvars.{State, Entries, Rules}

@@ -27,6 +27,7 @@ use Rattle.meaning_laws.proofs.EntriesFound.{relvar-at}
 use Rattle.dump_core.specs.Texts.{SourceText}
 use Rattle.assign_core.proofs.NameLemmas.{relvars_differ}
 use Rattle.typing_laws.specs.Saying.{Said, said_ordinal, said_base, said_view, said_history, said_rule, names_said, moved_said, said_names_any, entries_said, ordinals_said, rules_said, IsFree, HasRoom}
+use Rattle.typing_laws.proofs.LogsAlike.{logs-alike}
 use Rattle.typing_laws.proofs.NodesAlike.{nodes-alike, test-nodes-alike}
 use Rattle.dump_laws.specs.Kept.{is_early, is_late, IsTextOf, IsSmall, IsMadeOf}
 use Rattle.part_laws.specs.Parts.{emptied}
@@ -164,6 +165,8 @@ module _ (w : State) (ds : List Said) (made : IsMadeOf w ds) (well : IsWellMade 
       text = text;
       ordinals = stands.ordinals ∙ same;
       alike = alike-here;
+      logs = logs-alike (lacks r) (sizes_of w.ordinals) (sizes_of r.ordinals) w.relvars r.relvars well.relvars fits.relvars alike-here
+          (apart-so-far w r fits (relvars_differ w well) alike-here);
       known = known;
       free = free;
       room = λ f. has-room r d few-ordinals few-relvars few-rules f (small d here-said known (each-in (IsSmall w) ds (recursion_from_All (IsSmall w) ds made.small) d here-said) f);
