@@ -1,6 +1,6 @@
 -- What DROP VAR drops leaves a state well made.
 use Rattle.std.specs.Prelude.{◌≡◌, ℕ, zero, suc, Bool, true, false, not, ◌&&◌, List, [], ◌∷◌, ◌++◌, map, Option, Some, None, is_some, IfOk, IsTrue, refl}
-use Rattle.std.proofs.Common.{arith, sym, ◌∙◌, ap, subst}
+use Rattle.std.proofs.Common.{arith, get_or, sym, ◌∙◌, ap, subst}
 use Rattle.std.specs.List.{All, list_any}
 use Rattle.std.proofs.lemmas.Bool.{or_parts, not-true}
 use Rattle.std.proofs.lemmas.List.{append-nil}
@@ -22,6 +22,7 @@ use Rattle.meaning_core.specs.Histories.{joined_history, last_point, type_at, na
 use Rattle.meaning_core.specs.Typing.{IsTypedTest}
 use Rattle.meaning_core.specs.WellMade.{sizes_of, headings_of, FitsHeadings, IsBase, IsConstraint, IsOfRule, IsHistory, IsRelvar, AreRelvars, IsWellMade, IsLogOf}
 use Rattle.meaning_core.proofs.ElsewhereLemmas.{left, left-kept, left-gone, left-append, named-left}
+use Rattle.meaning_core.proofs.LogLemmas.{apart-dropped}
 use Rattle.meaning_core.proofs.StaysTyped.{tree-left, test-left}
 use Rattle.node_typing.specs.Positions.{check}
 use Rattle.declaration_typing.specs.Drops.{is_of_history, relvars_use, rules_use, is_used, dropped}
@@ -145,13 +146,17 @@ module _ (some : Name → Bool) where
   without-kept s made unused =
       let parts = or_parts (relvars_use s.relvars some) (rules_use s.rules some) unused in
       let before : List Name = map (λ k. k.0) s.rules ++ map (λ o. o.name) s.ordinals in
+      let sizes : List ℕ = sizes_of s.ordinals in
+      let relvars : AreRelvars sizes [] (left some s.relvars) = relvars-dropped sizes [] s.relvars parts.0 made.relvars in
+      let rules : All (λ k. IsTypedTest sizes (headings_of (left some s.relvars)) k.1) s.rules = rules-dropped sizes s.relvars s.rules parts.1 made.rules in
       record {
         few = made.few;
         ordinals = made.ordinals;
         different = distinct-behind some before s.relvars made.different;
-        relvars = relvars-dropped (sizes_of s.ordinals) [] s.relvars parts.0 made.relvars;
+        relvars = relvars;
         few_rules = made.few_rules;
-        rules = rules-dropped (sizes_of s.ordinals) s.relvars s.rules parts.1 made.rules;
+        rules = rules;
+        apart = λ k d l. apart-dropped some sizes s.relvars (get_or s.rules k d).1 relvars (rules k d l) (made.apart k d l);
       }
 
 module _ (s : State) (w : Word) where

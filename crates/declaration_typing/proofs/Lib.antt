@@ -6,6 +6,8 @@ pub mod FitLemmas
 mod StateLemmas
 pub mod RelvarLaws
 pub mod HistoryLaws
+pub mod LogLaws
+mod OverLemmas
 mod MoreTypes
 pub mod OrdinalLaws
 pub mod ViewLaws

@@ -91,6 +91,7 @@ types-more s o made free is room =
       few_rules = made.few_rules;
       rules = subst (λ (sizes : List ℕ). All (λ k. IsTypedTest sizes (headings_of s.relvars) k.1) s.rules) (sizes-with s o)
           (λ k d l. test-more (sizes_of s.ordinals) (length o.values ∷ []) (headings_of s.relvars) (get_or s.rules k d).1 (made.rules k d l));
+      apart = made.apart;
     }
 
 module _ (s : State) (w : Word) (list : SomeNamesP) where

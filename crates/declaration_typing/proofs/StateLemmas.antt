@@ -1,6 +1,6 @@
 -- A well made state with one relvar or view more.
 use Rattle.std.specs.Prelude.{◌≡◌, Bool, true, false, not, ◌||◌, List, [], ◌∷◌, ◌++◌, map, Option, Some, None, is_some, IfOk, IsTrue, refl, if◌then◌else◌}
-use Rattle.std.proofs.Common.{◌∙◌, subst}
+use Rattle.std.proofs.Common.{get_or, ◌∙◌, subst}
 use Rattle.std.specs.List.{AllByRecursion, IsDistinct, list_any}
 use Rattle.std.specs.Str.{bytes_eq}
 use Rattle.std.proofs.lemmas.Bool.{or_parts, not-true}
@@ -14,6 +14,7 @@ use Rattle.relation_typing.specs.Attributes.{name_typed}
 use Rattle.tree_core.specs.Relvars.{State, PlainRelvar, Entries, Rules, relvar_named}
 use Rattle.meaning_core.specs.Declarations.{with_relvar}
 use Rattle.meaning_core.specs.WellMade.{sizes_of, all_names, IsRelvar, IsWellMade}
+use Rattle.meaning_core.proofs.LogLemmas.{apart-appended}
 use Rattle.meaning_core.proofs.RelvarLemmas.{more_relvars, more_names}
 use Rattle.meaning_core.proofs.StaysTyped.{rules-behind}
 use Rattle.node_typing.specs.Positions.{check}
@@ -97,4 +98,5 @@ with-relvar s own r made free is = record {
   relvars = more_relvars (sizes_of s.ordinals) [] s.relvars own r made.relvars is;
   few_rules = made.few_rules;
   rules = rules-behind s own r made.rules;
+  apart = λ k d l. apart-appended (sizes_of s.ordinals) s.relvars ((own, r) ∷ []) (get_or s.rules k d).1 (made.rules k d l) (made.apart k d l);
 }

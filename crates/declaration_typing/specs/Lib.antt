@@ -6,4 +6,5 @@ pub mod Drops
 pub mod Nodes
 pub mod Views
 pub mod Histories
+pub mod Logs
 pub mod Rules

@@ -56,7 +56,7 @@ fn facts_typed(
 }
 
 /// The name of an attribute that the heading has not.
-fn attribute_named(alloc: Global, heading: &Heading, word: &Word) -> Result<Name, Stop>
+pub(crate) fn attribute_named(alloc: Global, heading: &Heading, word: &Word) -> Result<Name, Stop>
     ensures { Gives (λ n. n) result (attributes.new_name heading.now (read_name word.now)) }
 {
     let name = name_typed(alloc, word)?;

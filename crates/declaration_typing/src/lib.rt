@@ -1,11 +1,12 @@
-//! The typing of what declares and drops: ordinal types, base relvars with their constraints, views, histories, and database
-//! constraints.
+//! The typing of what declares and drops: ordinal types, base relvars with their constraints, views, histories, logs, and
+//! database constraints.
 #![tactic(auto)]
 
 mod constraints;
 mod drops;
 mod histories;
 mod lists;
+mod logs;
 mod names;
 mod nodes;
 mod ordinals;
@@ -16,6 +17,7 @@ mod views;
 
 pub use drops::type_drop;
 pub use histories::type_history;
+pub use logs::type_log;
 pub use ordinals::type_ordinal;
 pub use relvars::type_relvar;
 pub use rules::{type_rule, type_rule_drop};

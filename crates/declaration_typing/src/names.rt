@@ -1,4 +1,4 @@
-// The names of ordinal types, relvars, views and database constraints, which are one set.
+// The names of ordinal types, relvars, views, logs and database constraints, which are one set.
 ghost use Rattle.std.specs.Prelude.{◌≡◌};
 ghost use Rattle.std.specs.List.{list_any};
 ghost use Rattle.std.specs.Str.{bytes_eq};
@@ -35,7 +35,7 @@ pub(crate) fn is_rule(relvars: &Relvars, name: &Name) -> bool
     false
 }
 
-/// Whether an ordinal type, a relvar, a view or a database constraint has the name.
+/// Whether an ordinal type, a relvar, a view, a log or a database constraint has the name.
 fn is_taken(relvars: &Relvars, name: &Name) -> bool
     ensures { result ≡ rules.is_taken (read_relvars relvars.now) name.now }
 {
@@ -51,7 +51,7 @@ pub(crate) fn new_name(alloc: Global, word: &Word, relvars: &Relvars) -> Result<
     Ok(name)
 }
 
-/// The refusal of a relvar or view where there are as many as there may be.
+/// The refusal of a relvar, view or log where there are as many as there may be.
 pub(crate) fn room_for(relvars: &Relvars, place: Place) -> Result<(), Stop>
     ensures { Gives (λ _. tt) result (rules.room_for (read_relvars relvars.now) place) }
 {

@@ -23,7 +23,7 @@ pub(crate) fn is_known(relvars: &Relvars, name: &Name) -> bool
 }
 
 /// The heading of a base relvar.
-fn base_heading<'a>(place: Place, found: Option<&'a Relvar>) -> Result<&'a Heading, Stop>
+pub(crate) fn base_heading<'a>(place: Place, found: Option<&'a Relvar>) -> Result<&'a Heading, Stop>
     ensures { Gives (λ h. h.now) result (rules.base_heading place (option_map (λ r. read_relvar r.now) found.entry)) }
 {
     match found {

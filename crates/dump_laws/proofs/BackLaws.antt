@@ -1,8 +1,8 @@
--- A dumped script gives the database back.
+-- A dumped script gives the database back, where there is no log.
 --     text-step, can-bring      each statement of it is accepted
 --     made-back      of a state that the texts of a run make
 --     gives-back      the law
-use Rattle.std.proofs.Common.{◌≡◌, inl, inr, ℕ, zero, suc, ◌+◌, ◌≤◌, List, [], ◌∷◌, length, take, drop, refl, sym, ap, ◌∙◌, subst, arith, Some}
+use Rattle.std.proofs.Common.{◌≡◌, inl, inr, ℕ, zero, suc, ◌+◌, ◌≤◌, false, List, [], ◌∷◌, length, take, drop, refl, sym, ap, ◌∙◌, subst, arith, Some}
 use Rattle.std.specs.List.{filter}
 use Rattle.base_core.proofs.MemberLemmas.{In-filter}
 use Rattle.base_core.proofs.SetLemmas.{In}
@@ -12,6 +12,7 @@ use Rattle.value_core.specs.declared.constraint.Constraint.{Constraint}
 use Rattle.value_core.specs.declared.list.OrdinalNames.{OrdinalNames}
 use Rattle.value_core.specs.Values.{Name, Relation}
 use Rattle.tree_core.specs.Relvars.{State, PlainRelvar, base, Entries}
+use Rattle.meaning_core.specs.Logs.{has_log}
 use Rattle.dump_core.specs.Dumps.{script_of, statements_of}
 use Rattle.dump_core.specs.Inserts.{insert_script, rows_a_statement}
 use Rattle.dump_core.specs.Texts.{SourceText}
@@ -38,7 +39,7 @@ use Rattle.dump_laws.specs.Bringing.{Brings, CanBring}
 use Rattle.dump_laws.specs.Phases.{StandsEarly}
 use Rattle.dump_laws.proofs.DeclaredMade.{keeps-made}
 use Rattle.dump_laws.proofs.GivenBack.{given-back}
-use Rattle.dump_laws.proofs.RowsLaws.{with_rows, rows-bases, loadable-rows}
+use Rattle.dump_laws.proofs.RowsLaws.{with_rows, rows-bases, rows-logless, loadable-rows}
 use Rattle.dump_laws.proofs.SecondRunLaws.{Behind, all-taken}
 use Rattle.dump_laws.proofs.SameLaws.{same-state}
 use Rattle.dump_laws.proofs.ScriptLaws.{script-is}
@@ -84,6 +85,7 @@ module _ (w : State) (ds : List Said) (made : IsMadeOf w ds) (sound : IsSound w)
         may = may;
         now = now;
         none = none;
+        logless = rows-logless w ds made sound.0 sound.1 r h;
         sayable = subst (λ (os : List OrdinalNames). AreSayable os name v.heading) (sym types) (written name v c (in-first name v c (at-in full i (name, base v c) stands)));
       } in
       let script : List OrdinalNames → List ℕ = λ os. insert_script os name v.heading (take size (drop n v.rows)) in
@@ -96,11 +98,12 @@ module _ (w : State) (ds : List Said) (made : IsMadeOf w ds) (sound : IsSound w)
 -- ---- the law
 
 -- of a state that the texts of a run make
-pub made-back : (w : State) (texts : List SourceText) (ds : List Said) (x : List ℕ) → AreTexts w texts ds → IsMadeOf w ds → IsSound w → script_of texts w ≡ Some x → GivesBack x w
-made-back w texts ds x said made sound e =
+pub made-back : (w : State) (texts : List SourceText) (ds : List Said) (x : List ℕ) → AreTexts w texts ds → IsMadeOf w ds → IsSound w → has_log w.relvars ≡ false
+    → script_of texts w ≡ Some x → GivesBack x w
+made-back w texts ds x said made sound none e =
     let can : (r : State) → StandsEarly (filter is_early_said ds) r → CanBring w.ordinals (with_rows w r) = can-bring w ds made sound (state-written w texts ds said made sound.0.well_made) in
-    given-back w texts x (script-is (statements_of texts w) x e) (Behind text-step keeps-made none-made w texts ds said made sound.0 sound.1 can)
-    (λ r left h. (same-state w ds made sound.0.well_made r h.0, h.1)) (all-taken text-step keeps-made none-made w texts ds said made sound.0 sound.1 can)
+    given-back w texts x (script-is (statements_of texts w) x e) (Behind text-step keeps-made none-made w texts ds said made sound.0 sound.1 none can)
+    (λ r left h. (same-state w ds made sound.0.well_made none r h.0, h.1)) (all-taken text-step keeps-made none-made w texts ds said made sound.0 sound.1 none can)
 
 -- the run whose state is dumped
 module _ (bytes : List ℕ) (step : Step) (texts : List SourceText) (few : length bytes ≤ most_bytes) (after : IsAfter (statements_within bytes) (length (statements_within bytes)) step)
@@ -116,15 +119,15 @@ module _ (bytes : List ℕ) (step : Step) (texts : List SourceText) (few : lengt
     one-state : (performed are.0).state ≡ step.state
     one-state = ap (λ (s : Step). s.state) (sym one-step)
 
-    run-back : (x : List ℕ) → IsSound step.state → script_of texts step.state ≡ Some x → GivesBack x step.state
-    run-back x sound e =
+    run-back : (x : List ℕ) → IsSound step.state → has_log step.state.relvars ≡ false → script_of texts step.state ≡ Some x → GivesBack x step.state
+    run-back x sound none e =
         let run = run-kept bytes are.0 are.1 in
         let said : AreTexts step.state texts run.0 =
         subst (λ (w : State). AreTexts w texts run.0) one-state (subst (λ (ts : List SourceText). AreTexts (performed are.0).state ts run.0) (sym are.2) run.1) in
         let made : IsMadeOf step.state run.0 = subst (λ (w : State). IsMadeOf w run.0) one-state run.2 in
-        made-back step.state texts run.0 x said made sound e
+        made-back step.state texts run.0 x said made sound none e
 
 pub gives-back : (bytes : List ℕ) (step : Step) (texts : List SourceText) (x : List ℕ) → length bytes ≤ most_bytes → IsAfter (statements_within bytes) (length (statements_within bytes)) step
     → AreTextsOf bytes texts
-    → IsSound step.state → script_of texts step.state ≡ Some x → GivesBack x step.state
-gives-back bytes step texts x few after are sound e = run-back bytes step texts few after are x sound e
+    → IsSound step.state → has_log step.state.relvars ≡ false → script_of texts step.state ≡ Some x → GivesBack x step.state
+gives-back bytes step texts x few after are sound none e = run-back bytes step texts few after are x sound none e

@@ -1,9 +1,10 @@
 -- What stands after a run of statements, and after a declaration, DROP VAR, DROP CONSTRAINT and an assignment.
 --     IsStanding      the texts say what they say in the state, which is made of that and well made
 --     run-more      with what a declaration says
---     run-without-group, run-without-rule, run-with-rows      without a relvar or view, without a database constraint, and with other rows
+--     run-with-log      with a log
+--     run-without-group, run-without-rule, run-with-rows      without a relvar, view or log, without a database constraint, and with other rows
 --     run-counted      with one accepted statement more
-use Rattle.std.proofs.Common.{◌≡◌, inl, inr, ℕ, ◌≤◌, Bool, true, false, not, List, [], ◌∷◌, ◌++◌, length, arith, refl, sym, ap, ◌∙◌, subst, append_assoc, append-nil, length-append}
+use Rattle.std.proofs.Common.{◌≡◌, inl, inr, ℕ, ◌<◌, ◌≤◌, Bool, true, false, not, List, [], ◌∷◌, ◌++◌, length, arith, refl, sym, ap, ◌∙◌, subst, append_assoc, append-nil, length-append}
 use Rattle.std.proofs.Common.{Option, Some, None}
 use Rattle.std.specs.Prelude.{◌||◌, is_some}
 use Rattle.std.specs.List.{list_any}
@@ -16,14 +17,16 @@ use Rattle.relation_core.proofs.FilterLemmas.{length-filter_at_most}
 use Rattle.value_core.specs.declared.list.OrdinalNames.{OrdinalNames}
 use Rattle.value_core.specs.Limits.{most_relvars}
 use Rattle.value_core.specs.Values.{Name}
-use Rattle.tree_core.specs.Relvars.{State, PlainRelvar, base, view, Entries, relvar_named}
+use Rattle.tree_core.specs.declared.declaration.LogData.{LogData}
+use Rattle.tree_core.specs.Relvars.{State, PlainRelvar, base, view, Entries, relvar_named, heading_if}
 use Rattle.tree_core.specs.Trees.{Test}
 use Rattle.tree_core.specs.Uses.{is_one_of}
 use Rattle.dump_core.specs.Texts.{SourceText, forgotten}
-use Rattle.meaning_core.specs.Declarations.{counted, group, without_group, without_rule}
+use Rattle.meaning_core.specs.Declarations.{counted, group, without_group, without_rule, with_log}
+use Rattle.meaning_core.specs.Logs.{is_log, new_log, turned_logs}
 use Rattle.meaning_core.specs.Typing.{IsTypedTree, IsTypedTest}
 use Rattle.meaning_core.specs.WellMade.{sizes_of, headings_of, AreRelvars, IsWellMade}
-use Rattle.meaning_core.proofs.AcceptedLemmas.{made-counted}
+use Rattle.meaning_core.proofs.AcceptedLemmas.{bare-turned, made-turned}
 use Rattle.meaning_core.proofs.MadeLemmas.{same_name}
 use Rattle.meaning_core.proofs.RowlessLemmas.{bare_all, bare_entry}
 use Rattle.declaration_typing.specs.Drops.{relvars_use, rules_use, is_used, is_of_history}
@@ -37,7 +40,8 @@ use Rattle.dump_laws.proofs.ListLaws.{each-in, in-both}
 use Rattle.dump_laws.proofs.MadeLaws.{entry-name, made-more}
 use Rattle.dump_laws.proofs.NamingLaws.{AreNew, all-member, constraints-new, unnamed-new, unnamed-left}
 use Rattle.dump_laws.proofs.EmptiedLaws.{listed-with}
-use Rattle.dump_laws.proofs.TextLaws.{StaysSaid, key-name, text-stays, texts-stay, texts-more, texts-left}
+use Rattle.dump_laws.proofs.LoggedLaws.{logged-apart, log-alone, listed-without-log, listed-with-log}
+use Rattle.dump_laws.proofs.TextLaws.{StaysSaid, key-name, text-stays, texts-stay, texts-more, texts-left, all-left}
 use Rattle.meaning_core.proofs.ElsewhereLemmas.{typed-names, typed-test-names}
 use Rattle.dump_laws.proofs.NamingLaws.{new-clear}
 
@@ -167,13 +171,19 @@ texts-gone : (w : State) (texts : List SourceText) (ds : List Said) (listed : Is
 texts-gone w texts ds listed name gone goes are =
     texts-left w [] texts goes.front goes.back goes.d name goes.stays goes.key (other-keys w ds listed name gone goes) (subst (AreTexts w texts) goes.parts are)
 
+few-left : (w : State) (name : Name) → length w.relvars ≤ most_relvars → length (without_group name w).relvars ≤ most_relvars
+few-left w name few =
+    let some : Name → Bool = is_one_of (group w.relvars name) in
+    let less = length-filter_at_most (λ (e : Name × PlainRelvar). not (some e.0)) w.relvars in
+    omega (arith, less, few)
+
 -- without a relvar, a view or a history that nothing else uses
-pub run-without-group : (w : State) (texts : List SourceText) (ds : List Said) (name : Name) → IsStanding w texts ds → is_some (relvar_named w.relvars name) ≡ true
+run-without-said : (w : State) (texts : List SourceText) (ds : List Said) (name : Name) (r : PlainRelvar) → IsStanding w texts ds → relvar_named w.relvars name ≡ Some r → is_log r ≡ false
     → is_of_history w.relvars name ≡ false → is_used w (is_one_of (group w.relvars name)) ≡ false → IsWellMade (without_group name w)
     → (us : List Said) × IsStanding (without_group name w) (forgotten name texts) us
-run-without-group w texts ds name is there alone unused then =
+run-without-said w texts ds name r is there no_log alone unused then =
     let some : Name → Bool = is_one_of (group w.relvars name) in
-    let found = relvar-gone w ds is.listed name there alone in
+    let found = relvar-gone w ds is.listed name r there no_log alone in
     let goes : IsGone ds name some = found.0 in
     let us : List Said = goes.front ++ goes.back in
     let parts = or_parts (relvars_use w.relvars some) (rules_use w.rules some) unused in
@@ -187,12 +197,68 @@ run-without-group w texts ds name is there alone unused then =
             (texts-gone w texts ds is.listed name some goes is.texts);
         listed = made-without-group w ds name goes is.listed found.1;
         made = then;
-        few = let l = length-filter_at_most (λ (e : Name × PlainRelvar). not (some e.0)) w.relvars in let m = is.few in omega (arith, l, m);
+        few = few-left w name is.few;
         small = λ z i.
             let old = left-of ds name some goes z i in
             small-stays some w (without_group name w) follows z (none z i) (said-typed w ds is.listed is.made z old) (is.small z old);
       },
     )
+
+-- without a log that nothing else uses: no text said it
+run-without-log : (w : State) (texts : List SourceText) (ds : List Said) (name : Name) (r : PlainRelvar) → IsStanding w texts ds → relvar_named w.relvars name ≡ Some r → is_log r ≡ true
+    → is_used w (is_one_of (group w.relvars name)) ≡ false → IsWellMade (without_group name w) → IsStanding (without_group name w) (forgotten name texts) ds
+run-without-log w texts ds name r is there is_one unused then =
+    let some : Name → Bool = is_one_of (group w.relvars name) in
+    let apart : (z : Said) → In z ds → (n : Name) → In n (names_said z) → bytes_eq n name ≡ false = logged-apart w ds is.listed is.made name r there is_one in
+    let parts = or_parts (relvars_use w.relvars some) (rules_use w.rules some) unused in
+    let follows : IsFollowed some w (without_group name w) = follows-left some w (without_group name w) is.made then refl parts.0 in
+    let none : (z : Said) → In z ds → said_names_any some z ≡ false = λ z i.
+    unnamed-left some w ds is.listed z unused (λ n j. log-alone w ds is.listed is.made name r there is_one n (apart z i n j)) i in
+    record {
+      texts =
+          texts-stay w (without_group name w) [] (forgotten name texts) ds (λ z i. said-stays some w (without_group name w) follows z (none z i))
+          (all-left w [] texts ds name (λ z i. apart z i (key_said z) (key-name z)) is.texts);
+      listed = listed-without-log w ds is.listed is.made name r there is_one;
+      made = then;
+      few = few-left w name is.few;
+      small = λ z i. small-stays some w (without_group name w) follows z (none z i) (said-typed w ds is.listed is.made z i) (is.small z i);
+    }
+
+-- without any of them
+pub run-without-group : (w : State) (texts : List SourceText) (ds : List Said) (name : Name) → IsStanding w texts ds → is_some (relvar_named w.relvars name) ≡ true
+    → is_of_history w.relvars name ≡ false → is_used w (is_one_of (group w.relvars name)) ≡ false → IsWellMade (without_group name w)
+    → (us : List Said) × IsStanding (without_group name w) (forgotten name texts) us
+run-without-group w texts ds name is there alone unused then = by (relvar_named w.relvars name) refl there
+  where
+    by-log : (r : PlainRelvar) (b : Bool) → relvar_named w.relvars name ≡ Some r → is_log r ≡ b → (us : List Said) × IsStanding (without_group name w) (forgotten name texts) us
+    by-log r true e q = (ds, run-without-log w texts ds name r is e q unused then)
+    by-log r false e q = run-without-said w texts ds name r is e q alone unused then
+
+    by : (o : Option PlainRelvar) → relvar_named w.relvars name ≡ o → is_some o ≡ true → (us : List Said) × IsStanding (without_group name w) (forgotten name texts) us
+    by None e q = absurd (true≢false (sym q))
+    by (Some r) e q = by-log r (is_log r) e refl
+
+-- ---- LOG
+
+-- with a log, whose name is free
+pub run-with-log : (w : State) (texts : List SourceText) (ds : List Said) (d : LogData) → IsStanding w texts ds → is_taken w d.name ≡ false → length w.relvars < most_relvars → IsWellMade (with_log w d)
+    → IsStanding (with_log w d) texts ds
+run-with-log w texts ds d is free room then =
+    let r : State = with_log w d in
+    let some : Name → Bool = is_one_of (d.name ∷ []) in
+    let more : Entries = (d.name, new_log (heading_if (relvar_named w.relvars d.of)) w.accepted d) ∷ [] in
+    let new : AreNew some w.relvars =
+    free-names w (d.name ∷ []) (λ n i. elim i [ inl k ↦ subst (λ (m : Name). is_taken w m ≡ false) (sym k) free | inr k ↦ absurd k ]) in
+    let follows : IsFollowed some w r =
+    follows-new some w r more is.made then refl new (λ e i. any-own e.0 (d.name ∷ []) (elim i [ inl k ↦ inl (ap (λ (x : Name × PlainRelvar). x.0) k) | inr k ↦ absurd k ])) in
+    let old : (z : Said) → In z ds → said_names_any some z ≡ false = λ z i. unnamed-new some w ds is.listed z is.made new i in
+    record {
+      texts = texts-stay w r [] texts ds (λ z i. said-stays some w r follows z (old z i)) is.texts;
+      listed = listed-with-log w ds d is.listed;
+      made = then;
+      few = let e = length-append w.relvars more in omega (arith, e, room);
+      small = λ z i. small-stays some w r follows z (old z i) (said-typed w ds is.listed is.made z i) (is.small z i);
+    }
 
 -- ---- DROP CONSTRAINT and assignments
 
@@ -226,6 +292,9 @@ run-without-rule w texts ds name is there then =
       },
     )
 
+few-rows : (w : State) (fs : Entries) → bare_all fs ≡ bare_all w.relvars → length w.relvars ≤ most_relvars → length fs ≤ most_relvars
+few-rows w fs same few = let l = sym (length-map fs bare_entry) ∙ (ap length same ∙ length-map w.relvars bare_entry) in omega (arith, l, few)
+
 pub run-with-rows : (w : State) (texts : List SourceText) (ds : List Said) (fs : Entries) → IsStanding w texts ds → bare_all fs ≡ bare_all w.relvars → IsWellMade (record w { relvars = fs })
     → IsStanding (record w { relvars = fs }) texts ds
 run-with-rows w texts ds fs is same then =
@@ -235,20 +304,22 @@ run-with-rows w texts ds fs is same then =
       texts = texts-stay w r [] texts ds (stays-said w r texts ds is follows) is.texts;
       listed = listed-with w ds fs same is.listed;
       made = then;
-      few = let l = sym (length-map fs bare_entry) ∙ (ap length same ∙ length-map w.relvars bare_entry) in let m = is.few in omega (arith, l, m);
+      few = few-rows w fs same is.few;
       small = stays-small w r texts ds is follows;
     }
 
--- with one accepted statement more
+-- with one accepted statement more, which the logs tell
 pub run-counted : (w : State) (texts : List SourceText) (ds : List Said) → IsStanding w texts ds → IsStanding (counted w) texts ds
 run-counted w texts ds is =
     let r : State = counted w in
-    let then : IsWellMade r = made-counted w _ is.made in
-    let follows : IsFollowed none_of_them w r = follows-rows w r is.made then refl in
+    let same : bare_all (turned_logs w.relvars) ≡ bare_all w.relvars = bare-turned w.relvars in
+    let then : IsWellMade r = made-turned w is.made in
+    let follows : IsFollowed none_of_them w r = follows-rows w r is.made then same in
+    let listed : IsListedAs (record w { relvars = turned_logs w.relvars }) ds = listed-with w ds (turned_logs w.relvars) same is.listed in
     record {
       texts = texts-stay w r [] texts ds (stays-said w r texts ds is follows) is.texts;
-      listed = record { ordinals = is.listed.ordinals; early = is.listed.early; views = is.listed.views; rules = is.listed.rules; different = is.listed.different };
+      listed = record { ordinals = listed.ordinals; early = listed.early; views = listed.views; rules = listed.rules; different = listed.different };
       made = then;
-      few = is.few;
+      few = few-rows w (turned_logs w.relvars) same is.few;
       small = stays-small w r texts ds is follows;
     }

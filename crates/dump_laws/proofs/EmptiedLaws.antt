@@ -1,9 +1,9 @@
--- A state whose relvars differ in their rows alone.
---     emptied-bare      relvars without their rows, in the words of meaning_core
+-- A state whose relvars differ in their rows alone, and whose logs differ in their last numbers too.
+--     early-emptied, late-emptied      what stands without its rows stands before all rows, or is a view, as it was
 --     listed-with      the same is said of it
 --     alike-rows      each name stands for the like
 --     like-equal      what is equal is like
-use Rattle.std.proofs.Common.{◌≡◌, Bool, true, false, not, cond, List, [], ◌∷◌, map, refl, sym, ap, ◌∙◌, subst, Option, Some, None, option_map}
+use Rattle.std.proofs.Common.{◌≡◌, ℕ, Bool, true, false, cond, List, [], ◌∷◌, map, refl, sym, ap, ◌∙◌, subst, Option, Some, None, option_map}
 use Rattle.std.specs.List.{filter}
 use Rattle.std.specs.Str.{bytes_eq}
 use Rattle.value_core.specs.Values.{Name}
@@ -15,20 +15,10 @@ use Rattle.meaning_laws.proofs.LikeLemmas.{like-itself}
 use Rattle.meaning_laws.proofs.SameMoved.{tree-same}
 use Rattle.typing_laws.specs.Saying.{Said}
 use Rattle.dump_laws.specs.Kept.{is_early, is_late, IsListedAs}
-use Rattle.part_laws.specs.Parts.{emptied, without_rows}
-use Rattle.dump_laws.proofs.ListLaws.{filter-map}
+use Rattle.part_laws.specs.Parts.{emptied}
 use Rattle.dump_laws.proofs.NamingLaws.{IsView, tree_in}
 
 -- ---- without rows
-
-relvar-bare : (r : PlainRelvar) → without_rows r ≡ bare r
-relvar-bare (base value constraints) = refl
-relvar-bare (view t history) = refl
-relvar-bare (log o k last w) = refl
-
-pub emptied-bare : (es : Entries) → map emptied es ≡ bare_all es
-emptied-bare [] = refl
-emptied-bare (e ∷ es) = λ i. (e.0, relvar-bare e.1 i) ∷ emptied-bare es i
 
 pub early-emptied : (e : Name × PlainRelvar) → is_early (emptied e) ≡ is_early e
 early-emptied (name, base value constraints) = refl
@@ -36,29 +26,33 @@ early-emptied (name, view t None) = refl
 early-emptied (name, view t (Some names)) = refl
 early-emptied (name, log o k last w) = refl
 
-late-as-it-is : (es : Entries) → map emptied (filter is_late es) ≡ filter is_late es
-late-as-it-is [] = refl
-late-as-it-is ((name, base value constraints) ∷ es) = late-as-it-is es
-late-as-it-is ((name, view t None) ∷ es) = ap (λ (l : Entries). (name, view t None) ∷ l) (late-as-it-is es)
-late-as-it-is ((name, view t (Some names)) ∷ es) = late-as-it-is es
-late-as-it-is ((name, log o k last w) ∷ es) = ap (λ (l : Entries). (name, log o k last w) ∷ l) (late-as-it-is es)
+pub late-emptied : (e : Name × PlainRelvar) → is_late (emptied e) ≡ is_late e
+late-emptied (name, base value constraints) = refl
+late-emptied (name, view t None) = refl
+late-emptied (name, view t (Some names)) = refl
+late-emptied (name, log o k last w) = refl
+
+-- in the words of meaning_core
+early-bare : (es : Entries) → map emptied (filter is_early es) ≡ filter is_early (bare_all es)
+early-bare [] = refl
+early-bare ((name, base value constraints) ∷ es) = ap (λ (l : Entries). (name, base (record { heading = value.heading; rows = [] }) constraints) ∷ l) (early-bare es)
+early-bare ((name, view t None) ∷ es) = early-bare es
+early-bare ((name, view t (Some names)) ∷ es) = ap (λ (l : Entries). (name, view t (Some names)) ∷ l) (early-bare es)
+early-bare ((name, log o k last w) ∷ es) = early-bare es
+
+late-bare : (es : Entries) → filter is_late es ≡ filter is_late (bare_all es)
+late-bare [] = refl
+late-bare ((name, base value constraints) ∷ es) = late-bare es
+late-bare ((name, view t None) ∷ es) = ap (λ (l : Entries). (name, view t None) ∷ l) (late-bare es)
+late-bare ((name, view t (Some names)) ∷ es) = late-bare es
+late-bare ((name, log o k last w) ∷ es) = late-bare es
 
 module _ (es fs : Entries) (same : bare_all fs ≡ bare_all es) where
-  all-emptied : map emptied fs ≡ map emptied es
-  all-emptied = emptied-bare fs ∙ (same ∙ sym (emptied-bare es))
-
   pub early-same : map emptied (filter is_early fs) ≡ map emptied (filter is_early es)
-  early-same =
-      sym (filter-map is_early is_early emptied fs early-emptied)
-      ∙ (ap (filter is_early) all-emptied ∙ filter-map is_early is_early emptied es early-emptied)
-
-  late-same : map emptied (filter is_late fs) ≡ map emptied (filter is_late es)
-  late-same =
-      sym (filter-map is_late is_late emptied fs (λ e. ap not (early-emptied e)))
-      ∙ (ap (filter is_late) all-emptied ∙ filter-map is_late is_late emptied es (λ e. ap not (early-emptied e)))
+  early-same = early-bare fs ∙ (ap (filter is_early) same ∙ sym (early-bare es))
 
   pub views-same : filter is_late fs ≡ filter is_late es
-  views-same = sym (late-as-it-is fs) ∙ (late-same ∙ late-as-it-is es)
+  views-same = late-bare fs ∙ (ap (filter is_late) same ∙ sym (late-bare es))
 
 -- the same is said of it
 pub listed-with : (w : State) (ds : List Said) (fs : Entries) → bare_all fs ≡ bare_all w.relvars → IsListedAs w ds → IsListedAs (record w { relvars = fs }) ds
@@ -99,9 +93,18 @@ IsLogIf (Some (base v c)) = ⊥
 IsLogIf (Some (view t h)) = ⊥
 IsLogIf (Some (log o k last w)) = Unit {0}
 
-abbrev relvar_if : PlainRelvar → Option PlainRelvar → PlainRelvar
-relvar_if other None = other
-relvar_if other (Some r) = r
+-- the relvar that it tells, and the place of its statements
+abbrev of_if : Name → Option PlainRelvar → Name
+of_if other None = other
+of_if other (Some (base v c)) = other
+of_if other (Some (view t h)) = other
+of_if other (Some (log o k last w)) = o
+
+abbrev side_if : ℕ → Option PlainRelvar → ℕ
+side_if other None = other
+side_if other (Some (base v c)) = other
+side_if other (Some (view t h)) = other
+side_if other (Some (log o k last w)) = k
 
 abbrev tree_if : Tree → Option PlainRelvar → Tree
 tree_if other None = other
@@ -122,7 +125,7 @@ like-bare (Some (base v c)) (Some (log o k last w)) e = absurd (subst IsLogIf (s
 like-bare (Some (view t h)) (Some (log o k last w)) e = absurd (subst IsLogIf (sym e) tt)
 like-bare (Some (log o k last w)) (Some (base u d)) e = absurd (subst IsLogIf e tt)
 like-bare (Some (log o k last w)) (Some (view u g)) e = absurd (subst IsLogIf e tt)
-like-bare (Some (log o k last w)) (Some (log p j last v)) e = ap (relvar_if (log o k last w)) (sym e)
+like-bare (Some (log o k last w)) (Some (log p j n v)) e = (ap (of_if o) (sym e), ap (side_if k) (sym e), ap heading_if (sym e))
 
 pub alike-rows : (some : Name → Bool) (es fs : Entries) → bare_all fs ≡ bare_all es → Alike some es fs
 alike-rows some es fs same name none =

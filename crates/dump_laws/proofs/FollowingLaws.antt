@@ -21,6 +21,7 @@ use Rattle.meaning_laws.proofs.SameMoved.{tree-same, test-same}
 use Rattle.declaration_typing.specs.Drops.{relvars_use}
 use Rattle.declaration_typing.specs.Nodes.{nodes_of, test_nodes}
 use Rattle.typing_laws.specs.Saying.{Said, said_ordinal, said_base, said_view, said_history, said_rule, said_names_any}
+use Rattle.typing_laws.proofs.LogsAlike.{logs-alike}
 use Rattle.typing_laws.proofs.NodesAlike.{nodes-alike, test-nodes-alike}
 use Rattle.typing_laws.proofs.SaysElsewhere.{says-stays}
 use Rattle.dump_laws.specs.Kept.{IsSmall, IsListedAs}
@@ -70,7 +71,8 @@ said-typed w ds listed made (said_rule name t) i =
 module _ (some : Name → Bool) (w r : State) (follows : IsFollowed some w r) where
   pub said-stays : (d : Said) → said_names_any some d ≡ false → StaysSaid w r d
   said-stays d none types tree says =
-      says-stays some (record w { ordinals = types }) (record r { ordinals = types }) [] follows.alike (sym (append-nil types)) tree d none says
+      says-stays some (record w { ordinals = types }) (record r { ordinals = types }) [] follows.alike (sym (append-nil types))
+      (logs-alike some (sizes_of w.ordinals) (sizes_of r.ordinals) w.relvars r.relvars follows.made.relvars follows.then.relvars follows.alike follows.apart) tree d none says
 
   pub small-stays : (d : Said) → said_names_any some d ≡ false → IsTypedSaid w d → IsSmall w d → IsSmall r d
   small-stays (said_ordinal name names) none typed small = tt

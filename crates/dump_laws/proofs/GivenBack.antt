@@ -18,6 +18,7 @@ use Rattle.utd_session.specs.Machine.{Step, performed}
 use Rattle.utd_session.specs.Readings.{AreReadings}
 use Rattle.utd_session.specs.Run.{IsAfter}
 use Rattle.utd_session.specs.Statements.{Statement, first_place, statements, statements_within}
+use Rattle.utd_session.proofs.DumpLemmas.{dump_logless}
 use Rattle.utd_session.proofs.StatementLemmas.{within_short}
 use Rattle.part_laws.proofs.ThroughLemmas.{inserts-bases}
 use Rattle.dump_laws.proofs.Cuts.{in_order, texts_in, cut-lines}
@@ -71,5 +72,6 @@ module _ (w : State) (texts : List SourceText) (x : List ℕ) (is : IsScriptOf (
           silent = ap (λ (s : Step). s.output) step;
           same = here;
           kept = (run.readings, run.read, sym run.kept);
-          back = ap script_with (same-script w (performed run.readings).state texts run.left here both.1) ∙ is.again;
+          back = dump_logless run.left (performed run.readings).state here.logless_there
+              ∙ (ap script_with (same-script w (performed run.readings).state texts run.left here both.1) ∙ is.again);
         }

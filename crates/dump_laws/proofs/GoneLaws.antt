@@ -1,9 +1,9 @@
 -- What is said of a state from which a relvar, a view, a history or a database constraint went.
 --     IsGone      one of what is said goes, and its names are those that go
 --     others-apart      the names of the others do not go
---     relvar-gone, rule-gone      one goes with DROP VAR, and with DROP CONSTRAINT
+--     relvar-gone, rule-gone      one goes with DROP VAR of what is no log, and with DROP CONSTRAINT
 use Rattle.std.proofs.Common.{◌≡◌, inl, inr, Bool, true, false, List, [], ◌∷◌, ◌++◌, refl, sym, ap, ◌∙◌, subst, Option, Some, None}
-use Rattle.std.specs.Prelude.{is_some, ◌||◌}
+use Rattle.std.specs.Prelude.{◌||◌}
 use Rattle.std.specs.List.{flat_map, IsDistinct}
 use Rattle.std.specs.Str.{bytes_eq}
 use Rattle.std.proofs.lemmas.Bool.{true≢false, or_left}
@@ -17,6 +17,7 @@ use Rattle.tree_core.specs.Relvars.{State, PlainRelvar, base, view, relvar_named
 use Rattle.tree_core.specs.Trees.{Tree, Test}
 use Rattle.tree_core.specs.Uses.{is_one_of}
 use Rattle.meaning_core.specs.Declarations.{with_history, group}
+use Rattle.meaning_core.specs.Logs.{is_log}
 use Rattle.meaning_core.proofs.MadeLemmas.{own_name, same_name}
 use Rattle.declaration_typing.specs.Drops.{is_in_history, is_of_history}
 use Rattle.declaration_typing.specs.Names.{is_rule}
@@ -151,17 +152,13 @@ module _ (w : State) (ds : List Said) (made : IsListedAs w ds) where
       or_later false b q = q
   gone-names name r (said_rule own t) e alone i j = absurd j
 
-  pub relvar-gone : (name : Name) → is_some (relvar_named w.relvars name) ≡ true → is_of_history w.relvars name ≡ false
+  pub relvar-gone : (name : Name) (r : PlainRelvar) → relvar_named w.relvars name ≡ Some r → is_log r ≡ false → is_of_history w.relvars name ≡ false
       → (g : IsGone ds name (is_one_of (group w.relvars name))) × (rules_said g.d ≡ [])
-  relvar-gone name there alone = by (relvar_named w.relvars name) refl there
-    where
-      by : (o : Option PlainRelvar) → relvar_named w.relvars name ≡ o → is_some o ≡ true → (g : IsGone ds name (is_one_of (group w.relvars name))) × (rules_said g.d ≡ [])
-      by None e q = absurd (true≢false (sym q))
-      by (Some r) e q =
-          let said = said-of w ds made (name, r) (named-in w.relvars name r e) in
-          let parts = split-at said.0 ds said.1 in
-          let goes = gone-names name r said.0 e alone said.1 said.2 in
-          (record { front = parts.0; back = parts.1; d = said.0; parts = parts.2; key = goes.0; names = goes.1; stays = goes.2 }, goes.3)
+  relvar-gone name r e none alone =
+      let said = said-of w ds made (name, r) (named-in w.relvars name r e) none in
+      let parts = split-at said.0 ds said.1 in
+      let goes = gone-names name r said.0 e alone said.1 said.2 in
+      (record { front = parts.0; back = parts.1; d = said.0; parts = parts.2; key = goes.0; names = goes.1; stays = goes.2 }, goes.3)
 
   -- ---- what goes with DROP CONSTRAINT
 

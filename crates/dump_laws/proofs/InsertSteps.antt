@@ -1,7 +1,7 @@
 -- The insertion of a base relvar's next rows, at the head of a script or behind a byte 10.
 --     insert-first-step, insert-later-step      the law
 --     loads-accepted, loads-text      what is told of such a statement
-use Rattle.std.proofs.Common.{◌≡◌, ℕ, ◌+◌, true, List, [], ◌∷◌, take, drop, Some, None, Ok, ap, ◌∙◌, refl, arith, IsTrue}
+use Rattle.std.proofs.Common.{◌≡◌, ℕ, ◌+◌, true, false, List, [], ◌∷◌, take, drop, Some, None, Ok, ap, ◌∙◌, refl, arith, IsTrue}
 use Rattle.std.specs.List.{All, list_all}
 use Rattle.std.proofs.lemmas.Bool.{and_parts}
 use Rattle.std.proofs.lemmas.List.{length-take}
@@ -13,6 +13,7 @@ use Rattle.value_core.specs.Values.{Name, Row, Heading, Relation, IsRelation, fi
 use Rattle.value_core.proofs.RelationLemmas.{sorted_from_ascending}
 use Rattle.relation_core.proofs.FilterLemmas.{rows_ascend}
 use Rattle.tree_core.specs.Relvars.{base, Entries, State, relvar_named}
+use Rattle.meaning_core.specs.Logs.{has_log}
 use Rattle.dump_core.specs.Inserts.{insert_script}
 use Rattle.dump_core.specs.Texts.{SourceText}
 use Rattle.relation_typing.specs.Attributes.{is_name}
@@ -41,6 +42,7 @@ use Rattle.part_laws.proofs.RowLemmas.{Ascends-take}
 use Rattle.part_laws.proofs.StepLemmas.{brought-next}
 use Rattle.part_laws.proofs.ThroughLemmas.{next-all, next-some}
 use Rattle.dump_laws.specs.Loads.{IsLoadFor, Loads}
+use Rattle.dump_laws.proofs.LoggedLaws.{loaded-logless}
 
 -- ---- one insertion
 
@@ -59,8 +61,8 @@ insertion-leaves types name heading rows tree plain = ap keeping_of plain.is.1
 -- the relvars that the rows make are those of the next state
 insertion-answered : (r : State) (name : Name) (heading : Heading) (rows : List Row) (tree : StatementP) (old : Relation) (c : List Constraint) (new : Entries)
     → IsPlainInsertion r.ordinals Adding name heading rows tree → is_name name ≡ true → relvar_named r.relvars name ≡ Some (base old c) → old.heading ≡ heading → IsRelation old
-    → ((at there : Place) → brought_in r (joining None) at there name old rows ≡ Ok new) → of_tree r tree ≡ Changed (record r { relvars = new })
-insertion-answered r name heading rows tree old c new plain named found headed relation comes =
+    → has_log r.relvars ≡ false → ((at there : Place) → brought_in r (joining None) at there name old rows ≡ Ok new) → of_tree r tree ≡ Changed (record r { relvars = new })
+insertion-answered r name heading rows tree old c new plain named found headed relation logless comes =
     let done = plain-done r Adding name heading rows tree old c plain named found headed relation in
     let assigned : assigned_in r (assignments_of r.relvars done.items) ≡ Ok new =
     ap (assigned_in r) done.meant
@@ -102,6 +104,9 @@ module _ (es : Entries) (i n size : ℕ) (name : Name) (v : Relation) (c : List 
   found : relvar_named r.relvars name ≡ Some (base (first_of_value n v) c)
   found = ap (λ (l : Entries). relvar_named l name) is.now ∙ named-loaded es i n name v c is.loadable.different is.stands
 
+  logless : has_log r.relvars ≡ false
+  logless = ap has_log is.now ∙ loaded-logless i n es is.logless
+
   named : is_name name ≡ true
   named = name-is name (word-name name is.sayable.named)
 
@@ -113,7 +118,7 @@ module _ (es : Entries) (i n size : ℕ) (name : Name) (v : Relation) (c : List 
     tree = read.0;
     text = read.1;
     keeping = insertion-leaves r.ordinals name v.heading next read.0 read.2;
-    answered = insertion-answered r name v.heading next read.0 (first_of_value n v) c (loaded i (n + size) es) read.2 named found refl (first-relation n v whole) comes;
+    answered = insertion-answered r name v.heading next read.0 (first_of_value n v) c (loaded i (n + size) es) read.2 named found refl (first-relation n v whole) logless comes;
     one = one;
   }
 

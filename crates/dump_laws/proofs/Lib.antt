@@ -8,6 +8,7 @@ pub mod TextLaws
 pub mod EmptiedLaws
 pub mod FollowingLaws
 pub mod DeclaredLaws
+pub mod DeclaredLogs
 pub mod AssignedLaws
 pub mod Cuts
 pub mod RunLaws
@@ -18,6 +19,7 @@ pub mod AcceptingLaws
 pub mod OrderLaws
 pub mod LikeEntries
 pub mod PlaceLemmas
+pub mod LoggedLaws
 pub mod StandingLaws
 pub mod KnownLaws
 pub mod SaidTexts

@@ -1,20 +1,23 @@
 -- Entries of the same names in order, each for the like.
 --     like-append, like-length, like-names      joined, their number and their names
 --     BothLike, named-like      what a name stands for in both
---     like-filtered, same-early      some of them, and the like of what stands before all rows stands there too
+--     like-filtered, same-early, same-late      some of them, and the like of what stands before all rows stands there too, and of a view
+--     like-logless      where there is no log there, there is none
 --     full-one, like-full, like-bare      rows do not count
 --     rules-append, rules-length, no-rules      the same of database constraints
 --     like-emptied, filled-like, filled-rowless      relvars with the values of others
 use Rattle.std.proofs.Common.{◌≡◌, suc, Bool, true, false, cond, List, [], ◌∷◌, ◌++◌, map, length, refl, sym, ap, ap₂, ◌∙◌, subst, Option, Some, None}
 use Rattle.std.specs.List.{filter, AllByRecursion}
 use Rattle.std.specs.Str.{bytes_eq}
+use Rattle.std.proofs.lemmas.Bool.{or_parts, or_from}
 use Rattle.value_core.specs.declared.constraint.Constraint.{Constraint}
 use Rattle.value_core.specs.Values.{Name, Relation}
 use Rattle.tree_core.specs.Relvars.{PlainRelvar, base, view, Entries, Rules, relvar_named, log}
+use Rattle.meaning_core.specs.Logs.{is_log, has_log}
 use Rattle.meaning_core.proofs.RowlessLemmas.{bare, bare_entry, bare_all}
 use Rattle.meaning_laws.specs.Likeness.{IsLike}
-use Rattle.part_laws.specs.Parts.{IsEmptied, AreEmptied, filled, emptied, without_rows, is_base}
-use Rattle.dump_laws.specs.Kept.{is_early_relvar, is_early}
+use Rattle.part_laws.specs.Parts.{IsEmptied, AreEmptied, filled, emptied, without_rows}
+use Rattle.dump_laws.specs.Kept.{is_early_relvar, is_early, is_late_relvar, is_late}
 use Rattle.dump_laws.specs.Phases.{IsBare}
 use Rattle.dump_laws.specs.Standing.{AreLikeEntries, AreMovedRules}
 
@@ -79,7 +82,41 @@ same-early n m (view t k) (base u d) h = absurd h
 same-early n m (view t k) (view u g) h = ap (λ (o : Option (Name × Name)). is_early_relvar (view t o)) h.1 ∙ refl
 same-early n m (base v c) (log o i last w) h = absurd h
 same-early n m (view t k) (log o i last w) h = absurd h
-same-early n m (log o i last w) y h = ap is_early_relvar h
+same-early n m (log o i last w) (base u d) h = absurd h
+same-early n m (log o i last w) (view u g) h = absurd h
+same-early n m (log o i last w) (log p j k v) h = refl
+
+pub same-late : (n m : Name) (x y : PlainRelvar) → IsLike x y → is_late (m, y) ≡ is_late (n, x)
+same-late n m (base v c) (base u d) h = refl
+same-late n m (base v c) (view u g) h = absurd h
+same-late n m (view t k) (base u d) h = absurd h
+same-late n m (view t k) (view u g) h = ap (λ (o : Option (Name × Name)). is_late_relvar (view t o)) h.1 ∙ refl
+same-late n m (base v c) (log o i last w) h = absurd h
+same-late n m (view t k) (log o i last w) h = absurd h
+same-late n m (log o i last w) (base u d) h = absurd h
+same-late n m (log o i last w) (view u g) h = absurd h
+same-late n m (log o i last w) (log p j k v) h = refl
+
+-- ---- logs
+
+same-log : (x y : PlainRelvar) → IsLike x y → is_log y ≡ is_log x
+same-log (base v c) (base u d) h = refl
+same-log (base v c) (view u g) h = absurd h
+same-log (base v c) (log o i last w) h = absurd h
+same-log (view t k) (base u d) h = absurd h
+same-log (view t k) (view u g) h = refl
+same-log (view t k) (log o i last w) h = absurd h
+same-log (log o i last w) (base u d) h = absurd h
+same-log (log o i last w) (view u g) h = absurd h
+same-log (log o i last w) (log p j k v) h = refl
+
+pub like-logless : (xs ys : Entries) → AreLikeEntries xs ys → has_log xs ≡ false → has_log ys ≡ false
+like-logless [] [] h none = none
+like-logless [] (y ∷ ys) h none = absurd h
+like-logless (x ∷ xs) [] h none = absurd h
+like-logless (x ∷ xs) (y ∷ ys) h none =
+    let parts = or_parts (is_log x.1) (has_log xs) none in
+    or_from (is_log y.1) (has_log ys) (same-log x.1 y.1 h.0.1 ∙ parts.0) (like-logless xs ys h.1 parts.1)
 
 -- ---- rows do not count
 
@@ -137,7 +174,9 @@ emptied-one (n, view t h) (m, base u k) same like bare = absurd like
 emptied-one (n, view t h) (m, view u g) same like bare = (same, refl)
 emptied-one (n, base v c) (m, log o i last w) same like bare = absurd like
 emptied-one (n, view t h) (m, log o i last w) same like bare = absurd like
-emptied-one (n, log o i last w) (m, y) same like bare = (same, ap (λ (r : PlainRelvar). is_base (m, r)) like)
+emptied-one (n, log o i last w) (m, base u k) same like bare = absurd like
+emptied-one (n, log o i last w) (m, view u g) same like bare = absurd like
+emptied-one (n, log o i last w) (m, log p j k v) same like bare = (same, refl)
 
 pub like-emptied : (xs ys : Entries) → AreLikeEntries xs ys → AllByRecursion IsBare ys → AreEmptied xs ys
 like-emptied [] [] h bare = tt

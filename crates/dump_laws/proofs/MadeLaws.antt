@@ -1,6 +1,7 @@
 -- A state and what is said of it.
 --     entry-in, ordinal-in, rule-in      what is said stands in the state
---     said-of, said-rule-of      what stands in the state is said
+--     early-or-late, never-both, never-late      which entries stand before all rows, and which are views
+--     said-of, said-rule-of      what stands in the state is said, logs aside
 --     named-in, in-named      an entry that is looked up, and one that stands there
 --     taken-by      a name that is said is taken
 --     made-more      the state with what is said is made of one more
@@ -8,7 +9,7 @@ use Rattle.std.proofs.Common.{◌≡◌, inl, inr, Bool, true, false, cond, List
 use Rattle.std.specs.Prelude.{is_some, ◌||◌}
 use Rattle.std.specs.List.{filter, flat_map, list_any, IsDistinct}
 use Rattle.std.specs.Str.{bytes_eq}
-use Rattle.std.proofs.lemmas.Bool.{true≢false, or_left, or_right, not_from_false}
+use Rattle.std.proofs.lemmas.Bool.{true≢false, or_left, or_right}
 use Rattle.std.proofs.lemmas.List.{map-append}
 use Rattle.std.proofs.lemmas.List.Elements.{filter-append}
 use Rattle.base_core.proofs.MemberLemmas.{In-filter, In-flat_map, In-map, list_any-In}
@@ -17,6 +18,7 @@ use Rattle.value_core.specs.declared.list.OrdinalNames.{OrdinalNames}
 use Rattle.value_core.specs.Values.{Name}
 use Rattle.tree_core.specs.Relvars.{State, PlainRelvar, base, view, Entries, Rules, relvar_named, log}
 use Rattle.tree_core.specs.Trees.{Test}
+use Rattle.meaning_core.specs.Logs.{is_log}
 use Rattle.meaning_core.proofs.ElsewhereLemmas.{some-apart}
 use Rattle.meaning_core.proofs.MadeLemmas.{own_name, same_name}
 use Rattle.declaration_typing.specs.Names.{is_rule, is_taken}
@@ -83,12 +85,32 @@ in-named (k ∷ es) x i = elim i [
     by true more = refl
     by false more = more
 
--- a view that no history has is as it is without rows, and so is a log
-pub late-same : (x : Name × PlainRelvar) → is_early x ≡ false → emptied x ≡ x
-late-same (name, base value constraints) e = absurd (true≢false e)
+-- a view that no history has is as it is without rows
+late-same : (x : Name × PlainRelvar) → is_late x ≡ true → emptied x ≡ x
+late-same (name, base value constraints) e = absurd (true≢false (sym e))
 late-same (name, view t None) e = refl
 late-same (name, view t (Some names)) e = refl
 late-same (name, log o k last w) e = refl
+
+-- what is no log stands before all rows, or is a view
+pub early-or-late : (x : Name × PlainRelvar) → is_log x.1 ≡ false → is_early x ≡ false → is_late x ≡ true
+early-or-late (name, base value constraints) none e = absurd (true≢false e)
+early-or-late (name, view t None) none e = refl
+early-or-late (name, view t (Some names)) none e = absurd (true≢false e)
+early-or-late (name, log o k last w) none e = absurd (true≢false none)
+
+-- and not both
+pub never-both : (x : Name × PlainRelvar) → is_late x ≡ true → is_early x ≡ false
+never-both (name, base value constraints) e = absurd (true≢false (sym e))
+never-both (name, view t None) e = refl
+never-both (name, view t (Some names)) e = absurd (true≢false (sym e))
+never-both (name, log o k last w) e = refl
+
+pub never-late : (x : Name × PlainRelvar) → is_early x ≡ true → is_late x ≡ false
+never-late (name, base value constraints) e = refl
+never-late (name, view t None) e = absurd (true≢false (sym e))
+never-late (name, view t (Some names)) e = refl
+never-late (name, log o k last w) e = refl
 
 module _ (w : State) (ds : List Said) (made : IsListedAs w ds) where
   -- ---- what is said stands in the state
@@ -122,8 +144,8 @@ module _ (w : State) (ds : List Said) (made : IsListedAs w ds) where
 
   -- ---- what stands in the state is said
 
-  pub said-of : (x : Name × PlainRelvar) → In x w.relvars → (d : Said) × In d ds × In (emptied x) (entries_said d)
-  said-of x i = by (is_early x) refl
+  pub said-of : (x : Name × PlainRelvar) → In x w.relvars → is_log x.1 ≡ false → (d : Said) × In d ds × In (emptied x) (entries_said d)
+  said-of x i none = by (is_early x) refl
     where
       by : (b : Bool) → is_early x ≡ b → (d : Said) × In d ds × In (emptied x) (entries_said d)
       by true q =
@@ -131,9 +153,10 @@ module _ (w : State) (ds : List Said) (made : IsListedAs w ds) where
           let there = (In-flat_map entries_said (emptied x) (filter is_early_said ds)).0 (subst (In (emptied x)) made.early here) in
           (there.0, ((In-filter is_early_said there.0 ds).0 there.1).0, there.2)
       by false q =
-          let here : In x (filter is_late w.relvars) = (In-filter is_late x w.relvars).1 (i, not_from_false (is_early x) q) in
+          let late : is_late x ≡ true = early-or-late x none q in
+          let here : In x (filter is_late w.relvars) = (In-filter is_late x w.relvars).1 (i, late) in
           let there = (In-flat_map entries_said x (filter is_view_said ds)).0 (subst (In x) made.views here) in
-          (there.0, ((In-filter is_view_said there.0 ds).0 there.1).0, subst (λ (y : Name × PlainRelvar). In y (entries_said there.0)) (sym (late-same x q)) there.2)
+          (there.0, ((In-filter is_view_said there.0 ds).0 there.1).0, subst (λ (y : Name × PlainRelvar). In y (entries_said there.0)) (sym (late-same x late)) there.2)
 
   pub said-rule-of : (r : Name × Test) → In r w.rules → (d : Said) × In d ds × In r (rules_said d)
   said-rule-of r i = (In-flat_map rules_said r ds).0 (subst (In r) made.rules i)

@@ -6,8 +6,8 @@
 --     order-distinct      no name is said twice
 --     order-member, member-order      the same is said
 --     order-ordinals, order-entries, order-rules      what all of it adds to a state
---     parts-length      the lengths of the two parts of a list
-use Rattle.std.proofs.Common.{◌≡◌, ◌⊎◌, inl, inr, suc, ◌+◌, Bool, true, false, not, cond, List, [], ◌∷◌, ◌++◌, map, length, refl, sym, ap, ap₂, ◌∙◌, subst, append-nil, arith}
+--     parts-length      what stands before all rows and views are no more than all
+use Rattle.std.proofs.Common.{◌≡◌, ◌⊎◌, inl, inr, ◌+◌, ◌≤◌, Bool, true, false, cond, Some, None, List, [], ◌∷◌, ◌++◌, map, length, refl, sym, ap, ap₂, ◌∙◌, subst, append-nil, arith}
 use Rattle.std.specs.List.{filter, flat_map, IsDistinct}
 use Rattle.std.specs.Str.{bytes_eq}
 use Rattle.std.proofs.lemmas.Bool.{true≢false}
@@ -16,7 +16,7 @@ use Rattle.base_core.proofs.MemberLemmas.{In-append, In-filter, In-flat_map}
 use Rattle.base_core.proofs.SetLemmas.{In}
 use Rattle.value_core.specs.Values.{Name}
 use Rattle.value_core.specs.declared.list.OrdinalNames.{OrdinalNames}
-use Rattle.tree_core.specs.Relvars.{State, Entries, Rules}
+use Rattle.tree_core.specs.Relvars.{State, base, view, log, Entries, Rules}
 use Rattle.typing_laws.specs.Saying.{Said, said_ordinal, said_base, said_view, said_history, said_rule, names_said, entries_said, ordinals_said, rules_said}
 use Rattle.dump_laws.specs.Kept.{is_early, is_late, is_early_said, is_view_said, IsMadeOf}
 use Rattle.part_laws.specs.Parts.{emptied}
@@ -77,14 +77,12 @@ module _ {X Y : Type 0} (f : X → List Y) (p : X → Bool) where
       by true q more = ap₂ (λ (k l : List Y). k ++ l) (none x q) more
       by false q more = more
 
-pub parts-length : {X : Type 0} (p : X → Bool) (xs : List X) → length (filter p xs) + length (filter (λ x. not (p x)) xs) ≡ length xs
-parts-length p [] = omega arith
-parts-length {X} p (x ∷ xs) = by (p x) (parts-length p xs)
-  where
-    by : (b : Bool) → length (filter p xs) + length (filter (λ z. not (p z)) xs) ≡ length xs
-        → length (cond b (x ∷ filter p xs) (filter p xs)) + length (cond (not b) (x ∷ filter (λ z. not (p z)) xs) (filter (λ z. not (p z)) xs)) ≡ suc (length xs)
-    by true more = omega (arith, more)
-    by false more = omega (arith, more)
+pub parts-length : (es : Entries) → length (filter is_early es) + length (filter is_late es) ≤ length es
+parts-length [] = omega arith
+parts-length ((name, base value constraints) ∷ es) = let more = parts-length es in omega (arith, more)
+parts-length ((name, view t None) ∷ es) = let more = parts-length es in omega (arith, more)
+parts-length ((name, view t (Some names)) ∷ es) = let more = parts-length es in omega (arith, more)
+parts-length ((name, log o k last w) ∷ es) = let more = parts-length es in omega (arith, more)
 
 -- ---- the three kinds
 

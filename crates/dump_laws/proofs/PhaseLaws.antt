@@ -15,7 +15,8 @@ use Rattle.tree_core.specs.Relvars.{State, Entries}
 use Rattle.tree_core.specs.Trees.{Test}
 use Rattle.meaning_core.specs.Truths.{holds_in}
 use Rattle.meaning_core.specs.Declarations.{counted}
-use Rattle.meaning_core.proofs.AcceptedLemmas.{made-counted}
+use Rattle.meaning_core.specs.Logs.{has_log}
+use Rattle.meaning_core.proofs.AcceptedLemmas.{made-turned}
 use Rattle.meaning_core.specs.WellMade.{IsWellMade}
 use Rattle.dump_core.specs.Texts.{SourceText}
 use Rattle.typing_laws.specs.Saying.{Said, said_ordinal, said_base, said_view, said_history, said_rule, said_names_any, moved_said, entries_said, ordinals_said, with_said}
@@ -25,10 +26,10 @@ use Rattle.dump_laws.proofs.ListLaws.{in-middle}
 use Rattle.dump_laws.specs.Replays.{lacks, IsHeld, IsStepFor, Declares}
 use Rattle.dump_laws.specs.Accepting.{Outcome, TakesAll}
 use Rattle.dump_laws.specs.Phases.{IsBare, StandsEarly, StandsLate}
-use Rattle.dump_laws.specs.Standing.{is_rule_said, in_script_order, AreSaidFrom}
+use Rattle.dump_laws.specs.Standing.{is_rule_said, in_script_order, Stands, AreSaidFrom}
 use Rattle.dump_laws.proofs.ReachedLaws.{early_said, views_said, rules_of, known-early, known-view, known-rule, held-here}
 use Rattle.dump_laws.proofs.SegmentLaws.{TextStep, segment-taken}
-use Rattle.dump_laws.proofs.StandingLaws.{stands-more, stands-counted}
+use Rattle.dump_laws.proofs.StandingLaws.{stands-more, stands-unturned, stands-counted}
 use Rattle.dump_laws.proofs.StepLaws.{step-for, alike-here}
 
 -- what is declared leaves a well made state
@@ -85,28 +86,36 @@ module _ (text-step : TextStep) (keeps-made : KeepsMade) (w : State) (ds : List 
   early-next : (done rest : List Said) (d : Said) (t : SourceText) (place : Place) (bytes : List ℕ) (r : State) → early_said ds ≡ done ++ d ∷ rest → StandsEarly done r
       → (x : Declares place bytes r t d)
       → StandsEarly (done ++ d ∷ []) (counted (with_said r (moved_said x.move d)))
-  early-next done rest d t place bytes r e h x = record {
-    stands = stands-counted (done ++ d ∷ []) (with_said r (moved_said x.move d)) (stands-more done r x.move d h.stands);
-    fits = made-counted (with_said r (moved_said x.move d)) _ (keeps-made place bytes r t d x h.fits);
-    bare = bare-append r.relvars (entries_said (moved_said x.move d)) h.bare (bare-said (moved_said x.move d));
-  }
+  early-next done rest d t place bytes r e h x =
+      let s : State = with_said r (moved_said x.move d) in
+      let stands : Stands (done ++ d ∷ []) s = stands-more done r x.move d h.stands in
+      record {
+        stands = stands-counted (done ++ d ∷ []) s stands;
+        fits = made-turned s (keeps-made place bytes r t d x h.fits);
+        bare = subst (AllByRecursion IsBare) (sym (stands-unturned (done ++ d ∷ []) s stands))
+            (bare-append r.relvars (entries_said (moved_said x.move d)) h.bare (bare-said (moved_said x.move d)));
+      }
 
   pub early-taken : (ts : List SourceText) (r : State) (After : Outcome) → StandsEarly [] r → AreSaidFrom w [] ts (early_said ds)
       → ((last : State) → StandsEarly (early_said ds) last → After last ts)
       → TakesAll (map (λ (t : SourceText). t.bytes) ts) r [] After
   early-taken ts r After h said then = segment-taken text-step w [] (early_said ds) StandsEarly early-step early-next [] (early_said ds) ts r [] After refl h said then
 
-  -- ---- behind all rows
+  -- ---- behind all rows, where there is no log
 
   late-next : (done : List Said) (d : Said) (t : SourceText) (place : Place) (bytes : List ℕ) (r : State) → (is_view_said d ≡ true) ⊎ (is_rule_said d ≡ true) → StandsLate w done r
       → (x : Declares place bytes r t d)
       → StandsLate w (done ++ d ∷ []) (counted (with_said r (moved_said x.move d)))
-  late-next done d t place bytes r kind h x = record {
-    stands = stands-counted (done ++ d ∷ []) (with_said r (moved_said x.move d)) (stands-more done r x.move d h.stands);
-    fits = made-counted (with_said r (moved_said x.move d)) _ (keeps-made place bytes r t d x h.fits);
-    bases = filter-append is_base r.relvars (entries_said (moved_said x.move d)) ∙
-        (ap (λ (l : Entries). filter is_base r.relvars ++ l) (no-base d kind x.move) ∙ (append-nil (filter is_base r.relvars) ∙ h.bases));
-  }
+  late-next done d t place bytes r kind h x =
+      let s : State = with_said r (moved_said x.move d) in
+      let stands : Stands (done ++ d ∷ []) s = stands-more done r x.move d h.stands in
+      record {
+        stands = stands-counted (done ++ d ∷ []) s stands;
+        fits = made-turned s (keeps-made place bytes r t d x h.fits);
+        bases = ap (filter is_base) (stands-unturned (done ++ d ∷ []) s stands) ∙
+            (filter-append is_base r.relvars (entries_said (moved_said x.move d)) ∙
+            (ap (λ (l : Entries). filter is_base r.relvars ++ l) (no-base d kind x.move) ∙ (append-nil (filter is_base r.relvars) ∙ h.bases)));
+      }
 
   -- views
   abbrev InViews : List Said → State → Type 0
@@ -117,14 +126,14 @@ module _ (text-step : TextStep) (keeps-made : KeepsMade) (w : State) (ds : List 
       ap (λ (l : List Said). early_said ds ++ (l ++ rules_of ds)) e
       ∙ (ap (λ (l : List Said). early_said ds ++ l) (append_assoc done (d ∷ rest) (rules_of ds)) ∙ sym (append_assoc (early_said ds) done (d ∷ (rest ++ rules_of ds))))
 
-  views-step : (done rest : List Said) (d : Said) (t : SourceText) (r : State) (types more : List OrdinalNames) → views_said ds ≡ done ++ d ∷ rest → InViews done r
+  views-step : has_log w.relvars ≡ false → (done rest : List Said) (d : Said) (t : SourceText) (r : State) (types more : List OrdinalNames) → views_said ds ≡ done ++ d ∷ rest → InViews done r
       → flat_map ordinals_said (early_said ds ++ done) ≡ types ++ more
       → IsTextOf (record w { ordinals = types }) t d
       → IsStepFor w r types more t d
-  views-step done rest d t r types more e h same text =
+  views-step none done rest d t r types more e h same text =
       let is = kind-of is_view_said ds done rest d e in
       step-for w ds made well (early_said ds ++ done) (rest ++ rules_of ds) d (views-whole done rest d e) r h.stands h.fits t types more same text
-      (known-view w ds made well done rest d r e h.stands)
+      (known-view w ds made well none done rest d r e h.stands)
       (free-of-rules r d (inr is.1))
 
   views-next : (done rest : List Said) (d : Said) (t : SourceText) (place : Place) (bytes : List ℕ) (r : State) → views_said ds ≡ done ++ d ∷ rest → InViews done r → (x : Declares place bytes r t d)
@@ -133,12 +142,12 @@ module _ (text-step : TextStep) (keeps-made : KeepsMade) (w : State) (ds : List 
       let is = kind-of is_view_said ds done rest d e in
       subst (λ (l : List Said). StandsLate w l (counted (with_said r (moved_said x.move d)))) (append_assoc (early_said ds) done (d ∷ [])) (late-next (early_said ds ++ done) d t place bytes r (inl is.1) h x)
 
-  pub views-taken : (ts : List SourceText) (r : State) (texts : List SourceText) (After : Outcome) → StandsLate w (early_said ds) r
+  pub views-taken : has_log w.relvars ≡ false → (ts : List SourceText) (r : State) (texts : List SourceText) (After : Outcome) → StandsLate w (early_said ds) r
       → AreSaidFrom w (flat_map ordinals_said (early_said ds)) ts (views_said ds)
       → ((last : State) → StandsLate w (early_said ds ++ views_said ds) last → After last (texts ++ ts))
       → TakesAll (map (λ (t : SourceText). t.bytes) ts) r texts After
-  views-taken ts r texts After h said then =
-      segment-taken text-step w (early_said ds) (views_said ds) InViews views-step views-next [] (views_said ds) ts r texts After refl
+  views-taken none ts r texts After h said then =
+      segment-taken text-step w (early_said ds) (views_said ds) InViews (views-step none) views-next [] (views_said ds) ts r texts After refl
       (subst (λ (l : List Said). StandsLate w l r) (sym (append-nil (early_said ds))) h)
       (subst (λ (l : List Said). AreSaidFrom w (flat_map ordinals_said l) ts (views_said ds)) (sym (append-nil (early_said ds))) said) then
 
@@ -151,13 +160,13 @@ module _ (text-step : TextStep) (keeps-made : KeepsMade) (w : State) (ds : List 
       ap (λ (l : List Said). early_said ds ++ (views_said ds ++ l)) e
       ∙ (ap (λ (l : List Said). early_said ds ++ l) (sym (append_assoc (views_said ds) done (d ∷ rest))) ∙ sym (append_assoc (early_said ds) (views_said ds ++ done) (d ∷ rest)))
 
-  module _ (held : All (λ (x : Name × Test). holds_in w.relvars x.1 ≡ true) w.rules) where
+  module _ (held : All (λ (x : Name × Test). holds_in w.relvars x.1 ≡ true) w.rules) (none : has_log w.relvars ≡ false) where
     rule-known-here : (done : List Said) (r : State) (d : Said) → In d ds → is_rule_said d ≡ true → InRules done r → said_names_any (lacks r) d ≡ false
     rule-known-here done r (said_ordinal name names) i k h = absurd (true≢false (sym k))
     rule-known-here done r (said_base name heading typed) i k h = absurd (true≢false (sym k))
     rule-known-here done r (said_view name t) i k h = absurd (true≢false (sym k))
     rule-known-here done r (said_history made') i k h = absurd (true≢false (sym k))
-    rule-known-here done r (said_rule name t) i k h = known-rule w ds made well done r h.stands name t i
+    rule-known-here done r (said_rule name t) i k h = known-rule w ds made well none done r h.stands name t i
 
     rule-held : (done rest : List Said) (r : State) (d : Said) → rules_of ds ≡ done ++ d ∷ rest → In d ds → is_rule_said d ≡ true → InRules done r → (f : Place → Place) → IsHeld r (moved_said f d)
     rule-held done rest r (said_ordinal name names) e i k h f = tt
@@ -165,9 +174,9 @@ module _ (text-step : TextStep) (keeps-made : KeepsMade) (w : State) (ds : List 
     rule-held done rest r (said_view name t) e i k h f = tt
     rule-held done rest r (said_history made') e i k h f = tt
     rule-held done rest r (said_rule name t) e i k h f =
-        held-here w ds made well r h.fits
+        held-here w ds made well none r h.fits
         (alike-here w ds made well (early_said ds ++ (views_said ds ++ done)) rest (said_rule name t) (rules-whole done rest (said_rule name t) e) r h.stands h.fits) h.bases held name t i
-        (known-rule w ds made well done r h.stands name t i) f
+        (known-rule w ds made well none done r h.stands name t i) f
 
     rules-step : (done rest : List Said) (d : Said) (t : SourceText) (r : State) (types more : List OrdinalNames) → rules_of ds ≡ done ++ d ∷ rest → InRules done r
         → flat_map ordinals_said ((early_said ds ++ views_said ds) ++ done) ≡ types ++ more

@@ -3,7 +3,8 @@
 --     early-there, all-there      what stands before all rows, and all relvars and views, have their names
 --     known-early, known-view, known-rule      what is said names what was declared
 --     held-here      a database constraint holds
-use Rattle.std.proofs.Common.{◌≡◌, inl, inr, Bool, true, false, not, List, ◌∷◌, ◌++◌, map, refl, sym, ap, ◌∙◌, subst, Option, Some, None}
+-- All but the first of each where there is no log.
+use Rattle.std.proofs.Common.{◌≡◌, inl, inr, Bool, true, false, List, ◌∷◌, ◌++◌, map, refl, sym, ap, ◌∙◌, subst, Option, Some, None}
 use Rattle.std.specs.List.{filter, flat_map, All}
 use Rattle.std.proofs.lemmas.Bool.{true≢false}
 use Rattle.std.proofs.lemmas.List.Elements.{recursion_from_All}
@@ -14,6 +15,7 @@ use Rattle.value_core.specs.Values.{Name}
 use Rattle.tree_core.specs.Relvars.{State, PlainRelvar, base, view, Entries, relvar_named, log}
 use Rattle.tree_core.specs.Trees.{Test}
 use Rattle.tree_core.specs.Uses.{test_names_any}
+use Rattle.meaning_core.specs.Logs.{is_log, has_log}
 use Rattle.meaning_core.specs.Truths.{holds_in}
 use Rattle.meaning_core.specs.WellMade.{sizes_of, IsWellMade}
 use Rattle.meaning_laws.specs.Likeness.{Alike, HasValues, ValueIf}
@@ -26,7 +28,8 @@ use Rattle.part_laws.proofs.EntryLemmas.{named-filtered, named-unfiltered}
 use Rattle.dump_laws.specs.Kept.{is_early, is_late, is_early_said, is_view_said, IsMadeOf}
 use Rattle.std.proofs.lemmas.List.Concat.{flat_map-append}
 use Rattle.dump_laws.proofs.ListLaws.{in-front, in-middle, each-in}
-use Rattle.dump_laws.proofs.MadeLaws.{rule-in}
+use Rattle.dump_laws.proofs.MadeLaws.{named-in, early-or-late, rule-in}
+use Rattle.dump_laws.proofs.NamingLaws.{any-member}
 use Rattle.dump_laws.proofs.SayableLaws.{listed-of}
 use Rattle.dump_laws.specs.Replays.{lacks}
 use Rattle.dump_laws.specs.Standing.{is_rule_said, Stands}
@@ -60,13 +63,17 @@ module _ (w : State) (ds : List Said) (made : IsMadeOf w ds) (well : IsWellMade 
       let here : In (emptied x) (map emptied (filter is_early w.relvars)) = (In-map emptied (emptied x) (filter is_early w.relvars)).1 (x, (In-filter is_early x w.relvars).1 (i, q), refl) in
       stands-for (early_said ds ++ more) r h (emptied x) (in-given (emptied x) (early_said ds) more (subst (In (emptied x)) made.early here))
 
-  pub all-there : (more : List Said) (r : State) → Stands (early_said ds ++ (views_said ds ++ more)) r → (x : Name × PlainRelvar) → In x w.relvars → lacks r x.0 ≡ false
-  all-there more r h x i = by (is_early x) refl
+  -- where there is no log, what does not stand before all rows is a view
+  late-where : has_log w.relvars ≡ false → (x : Name × PlainRelvar) → In x w.relvars → is_early x ≡ false → is_late x ≡ true
+  late-where none x i q = early-or-late x (any-member (λ (r : Name × PlainRelvar). is_log r.1) w.relvars x none i) q
+
+  pub all-there : has_log w.relvars ≡ false → (more : List Said) (r : State) → Stands (early_said ds ++ (views_said ds ++ more)) r → (x : Name × PlainRelvar) → In x w.relvars → lacks r x.0 ≡ false
+  all-there none more r h x i = by (is_early x) refl
     where
       by : (b : Bool) → is_early x ≡ b → lacks r x.0 ≡ false
       by true q = early-there (views_said ds ++ more) r h x i q
       by false q =
-          let here : In x (filter is_late w.relvars) = (In-filter is_late x w.relvars).1 (i, ap not q) in
+          let here : In x (filter is_late w.relvars) = (In-filter is_late x w.relvars).1 (i, late-where none x i q) in
           stands-for (early_said ds ++ (views_said ds ++ more)) r h x
           (in-later x (early_said ds) (views_said ds ++ more) (in-given x (views_said ds) more (subst (In x) made.views here)))
 
@@ -89,8 +96,8 @@ module _ (w : State) (ds : List Said) (made : IsMadeOf w ds) (well : IsWellMade 
 
   -- ---- views
 
-  pub known-view : (done rest : List Said) (d : Said) (r : State) → views_said ds ≡ done ++ d ∷ rest → Stands (early_said ds ++ done) r → said_names_any (lacks r) d ≡ false
-  known-view done rest d r e h = by d e (subst (In d) (sym e) (in-middle d done rest))
+  pub known-view : has_log w.relvars ≡ false → (done rest : List Said) (d : Said) (r : State) → views_said ds ≡ done ++ d ∷ rest → Stands (early_said ds ++ done) r → said_names_any (lacks r) d ≡ false
+  known-view none done rest d r e h = by d e (subst (In d) (sym e) (in-middle d done rest))
     where
       by : (z : Said) → views_said ds ≡ done ++ z ∷ rest → In z (views_said ds) → said_names_any (lacks r) z ≡ false
       by (said_ordinal name names) q i = refl
@@ -103,10 +110,13 @@ module _ (w : State) (ds : List Said) (made : IsMadeOf w ds) (well : IsWellMade 
           there : (x : Name × PlainRelvar) → In x placed.before → lacks r x.0 ≡ false
           there x j = here (is_early x) refl
             where
+              among : In x w.relvars
+              among = in-whole x (name, view t None) w.relvars placed.before placed.behind placed.whole j
+
               here : (b : Bool) → is_early x ≡ b → lacks r x.0 ≡ false
-              here true k = early-there done r h x (in-whole x (name, view t None) w.relvars placed.before placed.behind placed.whole j) k
+              here true k = early-there done r h x among k
               here false k =
-                  let late : In x (filter is_late placed.before) = (In-filter is_late x placed.before).1 (j, ap not k) in
+                  let late : In x (filter is_late placed.before) = (In-filter is_late x placed.before).1 (j, late-where none x among k) in
                   let said : In x (flat_map entries_said done) = subst (In x) placed.same ((In-map (λ (y : Name × PlainRelvar). y) x (filter is_late placed.before)).1 (x, late, refl)) in
                   stands-for (early_said ds ++ done) r h x (in-later x (early_said ds) done said)
       by (said_history made) q i = refl
@@ -114,10 +124,10 @@ module _ (w : State) (ds : List Said) (made : IsMadeOf w ds) (well : IsWellMade 
 
   -- ---- database constraints
 
-  pub known-rule : (more : List Said) (r : State) → Stands (early_said ds ++ (views_said ds ++ more)) r → (name : Name) (t : Test) → In (said_rule name t) ds → test_names_any (lacks r) t ≡ false
-  known-rule more r h name t i = rule-known w r well t (rule-typed w ds made well name t i) (all-there more r h)
+  pub known-rule : has_log w.relvars ≡ false → (more : List Said) (r : State) → Stands (early_said ds ++ (views_said ds ++ more)) r → (name : Name) (t : Test) → In (said_rule name t) ds → test_names_any (lacks r) t ≡ false
+  known-rule none more r h name t i = rule-known w r well t (rule-typed w ds made well name t i) (all-there none more r h)
 
-  module _ (r : State) (fits : IsWellMade r) (alike : Alike (lacks r) w.relvars r.relvars) (bases : filter is_base r.relvars ≡ filter is_base w.relvars) where
+  module _ (none : has_log w.relvars ≡ false) (r : State) (fits : IsWellMade r) (alike : Alike (lacks r) w.relvars r.relvars) (bases : filter is_base r.relvars ≡ filter is_base w.relvars) where
     values-here : HasValues (lacks r) w.relvars r.relvars
     values-here name out = by (relvar_named w.relvars name) (relvar_named r.relvars name) refl refl
       where
@@ -129,8 +139,9 @@ module _ (w : State) (ds : List Said) (made : IsMadeOf w ds) (well : IsWellMade 
             subst (λ (o : Option PlainRelvar). ValueIf (Some (base v c)) o) (sym found) refl
         by (Some (view t history)) None e f = tt
         by (Some (view t history)) (Some y) e f = tt
-        by (Some (log o k last w)) None e f = tt
-        by (Some (log o k last w)) (Some y) e f = tt
+        by (Some (log o k last v)) p e f =
+            let there : true ≡ false = any-member (λ (x : Name × PlainRelvar). is_log x.1) w.relvars (name, log o k last v) none (named-in w.relvars name (log o k last v) e) in
+            absurd (true≢false there)
 
     pub held-here : All (λ (x : Name × Test). holds_in w.relvars x.1 ≡ true) w.rules → (name : Name) (t : Test) → In (said_rule name t) ds → test_names_any (lacks r) t ≡ false → (f : Place → Place)
         → holds_in r.relvars (moved_test f t) ≡ true

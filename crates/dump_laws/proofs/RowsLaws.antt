@@ -1,15 +1,17 @@
 -- The statements of a dumped script that insert rows are accepted, and give the base relvars their values.
 --     with_rows      the relvars of the second run with the values of the first
---     rows-bases      they have the base relvars of the first
+--     rows-bases, rows-logless      they have the base relvars of the first, and no log
 --     loadable-rows      its rows can come in
 --     rows-taken      the law
-use Rattle.std.proofs.Common.{◌≡◌, ℕ, ◌+◌, true, List, [], refl, sym, ap, ◌∙◌, subst}
+use Rattle.std.proofs.Common.{◌≡◌, ℕ, ◌+◌, true, false, List, [], refl, sym, ap, ◌∙◌, subst}
 use Rattle.std.specs.List.{filter, flat_map}
 use Rattle.point_core.specs.declared.fault.Place.{Place}
 use Rattle.tree_core.specs.Relvars.{State, Entries, Rules}
 use Rattle.meaning_core.specs.Declarations.{counted}
+use Rattle.meaning_core.specs.Logs.{has_log}
 use Rattle.meaning_core.specs.WellMade.{IsWellMade}
 use Rattle.meaning_core.proofs.AcceptedLemmas.{made-counted}
+use Rattle.meaning_core.proofs.LogLemmas.{turned-none}
 use Rattle.meaning_core.proofs.RowlessLemmas.{bare-keeps}
 use Rattle.dump_core.specs.Inserts.{rows_a_statement, rows_of_state, HaveRelations}
 use Rattle.dump_core.specs.Texts.{SourceText}
@@ -28,7 +30,8 @@ use Rattle.dump_laws.specs.Accepting.{Outcome, TakesAll}
 use Rattle.dump_laws.specs.Bringing.{Brings, CanBring}
 use Rattle.dump_laws.specs.Phases.{StandsEarly, StandsLate}
 use Rattle.dump_laws.specs.Standing.{AreLikeEntries, AreMovedRules}
-use Rattle.dump_laws.proofs.LikeEntries.{like-full, like-bare, no-rules, like-emptied, filled-like, filled-rowless}
+use Rattle.dump_laws.proofs.LikeEntries.{like-full, like-bare, like-logless, no-rules, like-emptied, filled-like, filled-rowless}
+use Rattle.dump_laws.proofs.LoggedLaws.{early-logless, loaded-logless}
 use Rattle.dump_laws.proofs.OrderLaws.{none-left, early-rules, early-ordinals}
 
 -- a statement that keeps no text
@@ -54,6 +57,9 @@ module _ (w : State) (ds : List Said) (made : IsMadeOf w ds) (kept : IsKept w) (
 
   pub loadable-rows : IsLoadable full
   loadable-rows = loadable-filled (filter is_early w.relvars) r.relvars as-emptied (loadable-kept is_early w.relvars (λ name v c. refl) (loadable-state w kept relations))
+
+  pub rows-logless : has_log full ≡ false
+  rows-logless = like-logless (filter is_early w.relvars) full (filled-like (filter is_early w.relvars) r.relvars like-early) (early-logless w.relvars)
 
   -- no rows yet
   at-first : r.relvars ≡ loaded 0 0 full
@@ -102,7 +108,7 @@ module _ (w : State) (ds : List Said) (made : IsMadeOf w ds) (kept : IsKept w) (
           x.one,
           x.text,
           x.answered,
-          subst (λ (us : List SourceText). TakesAll later (counted next) us After) (sym (brings-text place bytes s now x texts)) (more (counted next) refl o none),
+          subst (λ (us : List SourceText). TakesAll later (counted next) us After) (sym (brings-text place bytes s now x texts)) (more (counted next) (turned-none now (loaded-logless i (n + rows_a_statement name c) full rows-logless)) o none),
         )
 
     pub rows-taken : TakesAll (rows_of_state w) r texts After

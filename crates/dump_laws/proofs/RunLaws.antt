@@ -19,6 +19,7 @@ use Rattle.utd_syntax.specs.Plain as syntax
 use Rattle.utd_syntax.specs.Plain.{Word, StatementP}
 use Rattle.utd_lexer.specs.Gaps.{without_gaps}
 use Rattle.relation_typing.specs.Attributes.{name_typed}
+use Rattle.tree_core.specs.declared.declaration.LogData.{LogData}
 use Rattle.tree_core.specs.Items.{PlainItem}
 use Rattle.tree_core.specs.Relvars.{State, Entries, relvar_named}
 use Rattle.tree_core.specs.Trees.{Tree, Test}
@@ -26,7 +27,7 @@ use Rattle.tree_core.specs.Uses.{is_one_of}
 use Rattle.dump_core.specs.declared.texts.TextKind.{TextKind}
 use Rattle.dump_core.specs.declared.texts.TextKind.TheVariants.{Early, Rule}
 use Rattle.dump_core.specs.Texts.{SourceText, forgotten}
-use Rattle.meaning_core.specs.Declarations.{group, without_group, without_rule, with_rule}
+use Rattle.meaning_core.specs.Declarations.{group, without_group, without_rule, with_rule, with_log}
 use Rattle.meaning_core.specs.Truths.{holds_in, truth_in}
 use Rattle.meaning_core.specs.Updates.{IsTypedItem}
 use Rattle.meaning_core.specs.WellMade.{IsWellMade}
@@ -37,10 +38,11 @@ use Rattle.row_typing_laws.proofs.HeadingNames.{name-written}
 use Rattle.row_typing_laws.proofs.Parts.{parts-of, check-holds}
 use Rattle.tree_typing.specs.Trees.{tree_typed, test_typed}
 use Rattle.declaration_typing.specs.Drops.{is_of_history, is_used, dropped}
+use Rattle.declaration_typing.specs.Logs.{log_declared}
 use Rattle.declaration_typing.specs.Names.{is_rule}
 use Rattle.declaration_typing.specs.Rules.{rule_dropped}
 use Rattle.item_typing.specs.Items.{assignment_typed}
-use Rattle.type_check.specs.Checks.{Plain, remove, remove_rule, assign, print, ask, giving, checked, IsTypedPlain}
+use Rattle.type_check.specs.Checks.{Plain, declare_log, remove, remove_rule, assign, print, ask, giving, checked, IsTypedPlain}
 use Rattle.type_check.proofs.CheckLemmas.{checked-typed}
 use Rattle.typing_laws.specs.Saying.{Said, said_ordinal, said_base, said_view, said_history, said_rule, IsDeclaration, plain_of, with_said}
 use Rattle.typing_laws.proofs.SaidLaws.{with-ordinal, with-base, with-view, with-history, with-said-rule}
@@ -60,7 +62,8 @@ use Rattle.text_laws.specs.Statements.{IsOneStatement}
 use Rattle.dump_laws.specs.Kept.{IsTextOf, AreTexts, IsMadeOf, IsSmall}
 use Rattle.dump_laws.proofs.AssignedLaws.{all-typed, assigned-rows}
 use Rattle.dump_laws.proofs.Cuts.{IsOneText, cut-ones}
-use Rattle.dump_laws.proofs.DeclaredLaws.{IsStanding, run-counted, run-more, run-without-group, run-without-rule, run-with-rows}
+use Rattle.dump_laws.proofs.DeclaredLogs.{log-free}
+use Rattle.dump_laws.proofs.DeclaredLaws.{IsStanding, run-counted, run-more, run-with-log, run-without-group, run-without-rule, run-with-rows}
 use Rattle.dump_laws.proofs.OutcomeLaws.{given-same}
 
 -- ---- one statement
@@ -149,6 +152,23 @@ module _ (w : State) (texts : List SourceText) (ds : List Said) (is : IsStanding
             (subst (λ (n : Name). IsStanding (without_rule one.0 w) (forgotten n texts) left.0) (sym word_is) left.1),
       )
 
+  -- ---- LOG
+
+  -- a log is declared whose name is free, and for which there is room; its text is not kept
+  log-kept : (bytes : List ℕ) (l source t : Word) (d : LogData) → log_declared w l source t ≡ Ok d → IsWellMade (with_log w d) → IsKeptBy w texts Leaves bytes (Changed (with_log w d))
+  log-kept bytes l source t d e then = let is_new = log-free w l source t d e in (ds, run-with-log w texts ds d is is_new.0 is_new.1 then)
+
+  -- or it is refused
+  opened-kept : (bytes : List ℕ) (l source t : Word) (d : LogData) → log_declared w l source t ≡ Ok d → IsWellMade (with_log w d) → (b : Bool) (refuse : Refuse)
+      → IsKeptBy w texts Leaves bytes (if_allowed (cond b (Ok (with_log w d)) (Err refuse)))
+  opened-kept bytes l source t d e then true refuse = log-kept bytes l source t d e then
+  opened-kept bytes l source t d e then false refuse = (ds, is)
+
+  logged-kept : (bytes : List ℕ) (l source t : Word) (r : OrFault LogData) → log_declared w l source t ≡ r → IfOk (giving declare_log r) (IsTypedPlain w)
+      → IsKeptBy w texts Leaves bytes (unless_fault (of_checked w) (giving declare_log r))
+  logged-kept bytes l source t (Ok d) e typed = opened-kept bytes l source t d e typed.made true (Broken E45 d.name 0)
+  logged-kept bytes l source t (Err fault) e typed = (ds, is)
+
   -- ---- declarations
 
   -- the machine makes what is said, or refuses it
@@ -211,7 +231,8 @@ module _ (w : State) (texts : List SourceText) (ds : List Said) (is : IsStanding
       declared-kept place bytes (syntax.DeclareRelvar at v form) (kind_of form) v.bytes text one short tt refl (checked w (syntax.DeclareRelvar at v form)) refl
   tree-kept place bytes (syntax.DeclareHistory at v h key b p d i t) text one short =
       declared-kept place bytes (syntax.DeclareHistory at v h key b p d i t) Early v.bytes text one short tt refl (checked w (syntax.DeclareHistory at v h key b p d i t)) refl
-  tree-kept place bytes (syntax.DeclareLog at log source attribute) text one short = (ds, is)
+  tree-kept place bytes (syntax.DeclareLog at l source attribute) text one short =
+      logged-kept (without_gaps bytes) l source attribute (log_declared w l source attribute) refl (checked-typed w is.made (syntax.DeclareLog at l source attribute))
   tree-kept place bytes (syntax.DeclareRule at v test) text one short =
       declared-kept place bytes (syntax.DeclareRule at v test) Rule v.bytes text one short tt refl (checked w (syntax.DeclareRule at v test)) refl
   tree-kept place bytes (syntax.Drop at v) text one short = drop-kept (without_gaps bytes) v (dropped w v) refl (checked-typed w is.made (syntax.Drop at v))
@@ -263,6 +284,7 @@ none-made = record {
   relvars = tt;
   few_rules = omega arith;
   rules = All-nil _;
+  apart = All-nil _;
 }
 
 none-run : IsStanding no_relvars [] []

@@ -1,10 +1,10 @@
 -- The names of a state that a run leaves can be said again, since they stand in texts.
 --     said-sayable      what a text says has such names
 --     bytes-are-names      the law
-use Rattle.std.proofs.Common.{◌≡◌, ◌⊎◌, true, inl, inr, List, [], ◌∷◌, ◌++◌, refl, sym, ap, ◌∙◌, subst, Ok}
+use Rattle.std.proofs.Common.{◌≡◌, ◌⊎◌, Bool, true, false, inl, inr, List, [], ◌∷◌, ◌++◌, refl, sym, ap, ◌∙◌, subst, Ok}
 use Rattle.std.specs.Prelude.{not, length, nat_le, ◌&&◌}
 use Rattle.std.specs.Str.{bytes_eq}
-use Rattle.std.proofs.lemmas.Bool.{not-false, leb-true}
+use Rattle.std.proofs.lemmas.Bool.{not-false, leb-true, true≢false}
 use Rattle.base_core.proofs.ListLemmas.{All-In}
 use Rattle.base_core.proofs.MemberLemmas.{In-append, In-flat_map}
 use Rattle.base_core.proofs.SetLemmas.{In}
@@ -32,6 +32,7 @@ use Rattle.relation_typing.specs.Headings.{heading_typed, kind_typed, attributes
 use Rattle.tree_core.specs.Relvars.{State, PlainRelvar, base, view, log}
 use Rattle.tree_core.specs.declared.declaration.HistoryData.{HistoryData}
 use Rattle.dump_core.specs.Texts.{SourceText}
+use Rattle.meaning_core.specs.Logs.{is_log}
 use Rattle.meaning_core.specs.Histories.{with_attribute}
 use Rattle.node_typing.specs.Lists.{named_in}
 use Rattle.node_typing.specs.Positions.{check}
@@ -218,7 +219,12 @@ entry-sayable e (said_rule name t) held i = absurd i
 with-rows : (e : Name × PlainRelvar) → Sayable (emptied e) → Sayable e
 with-rows (name, base value constraints) held = held
 with-rows (name, view t history) held = held
-with-rows (name, log o k last w) held = held
+with-rows (name, log o k last w) held = tt
+
+log-sayable : (e : Name × PlainRelvar) → is_log e.1 ≡ true → Sayable e
+log-sayable (name, base value constraints) is = absurd (true≢false (sym is))
+log-sayable (name, view t history) is = absurd (true≢false (sym is))
+log-sayable (name, log o k last w) is = tt
 
 -- what a state is made of, its limits aside
 pub listed-of : (w : State) (ds : List Said) → IsMadeOf w ds → IsListedAs w ds
@@ -231,8 +237,11 @@ bytes-are-names w texts ds are made = record {
       All-In IsSayableType w.ordinals (λ o i.
       let of = (In-flat_map ordinals_said o ds).0 (subst (In o) made.ordinals i) in
       ordinal-sayable o of.0 (all-sayable w [] texts ds are of.0 of.1) of.2);
-  relvars =
-      All-In Sayable w.relvars (λ e i.
-      let of = said-of w ds (listed-of w ds made) e i in
-      with-rows e (entry-sayable (emptied e) of.0 (all-sayable w [] texts ds are of.0 of.1) of.2));
+  relvars = All-In Sayable w.relvars (λ e i. by e i (is_log e.1) refl);
 }
+  where
+    by : (e : Name × PlainRelvar) → In e w.relvars → (b : Bool) → is_log e.1 ≡ b → Sayable e
+    by e i true q = log-sayable e q
+    by e i false q =
+        let of = said-of w ds (listed-of w ds made) e i q in
+        with-rows e (entry-sayable (emptied e) of.0 (all-sayable w [] texts ds are of.0 of.1) of.2)

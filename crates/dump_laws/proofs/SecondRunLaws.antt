@@ -1,10 +1,11 @@
--- The statements of a dumped script are accepted one after the other.
+-- The statements of a dumped script are accepted one after the other, where there is no log.
 --     Behind      what stands behind all of them
 --     all-taken      the law
-use Rattle.std.proofs.Common.{◌≡◌, ℕ, List, [], ◌++◌, refl, sym, ap₂, ◌∙◌, subst, append_assoc, append-nil}
+use Rattle.std.proofs.Common.{◌≡◌, ℕ, false, List, [], ◌++◌, refl, sym, ap₂, ◌∙◌, subst, append_assoc, append-nil}
 use Rattle.std.specs.List.{filter, flat_map}
 use Rattle.value_core.specs.declared.list.OrdinalNames.{OrdinalNames}
 use Rattle.tree_core.specs.Relvars.{State}
+use Rattle.meaning_core.specs.Logs.{has_log}
 use Rattle.meaning_core.specs.WellMade.{IsWellMade}
 use Rattle.assign_core.specs.Databases.{no_relvars}
 use Rattle.assign_core.specs.Databases.{IsKept}
@@ -31,7 +32,7 @@ use Rattle.dump_laws.proofs.StandingLaws.{none-stand}
 
 module _ (text-step : TextStep) (keeps-made : KeepsMade) (empty-made : IsWellMade no_relvars) (w : State) (texts : List SourceText) (ds : List Said) (said : AreTexts w texts ds)
     (made : IsMadeOf w ds) (kept : IsKept w)
-    (relations : HaveRelations w.relvars) (can : (r : State) → StandsEarly (filter is_early_said ds) r → CanBring w.ordinals (with_rows w r))
+    (relations : HaveRelations w.relvars) (none : has_log w.relvars ≡ false) (can : (r : State) → StandsEarly (filter is_early_said ds) r → CanBring w.ordinals (with_rows w r))
   where
     -- all is declared, and the texts are those of the first run, in the order of the script
     abbrev pub Behind : Outcome
@@ -55,14 +56,14 @@ module _ (text-step : TextStep) (keeps-made : KeepsMade) (empty-made : IsWellMad
     -- behind the texts of views
     from-rules : (r : State) → StandsLate w (early_said ds ++ views_said ds) r → TakesAll (of_kind Rule texts) r (texts_of_kind Early texts ++ texts_of_kind View texts) Behind
     from-rules r h =
-        rules-taken text-step keeps-made w ds made kept.well_made kept.rules (texts_of_kind Rule texts) r (texts_of_kind Early texts ++ texts_of_kind View texts) Behind h rules-here
+        rules-taken text-step keeps-made w ds made kept.well_made kept.rules none (texts_of_kind Rule texts) r (texts_of_kind Early texts ++ texts_of_kind View texts) Behind h rules-here
         (λ last k. (k, append_assoc (texts_of_kind Early texts) (texts_of_kind View texts) (texts_of_kind Rule texts)))
 
     -- behind the rows
     from-views : (r : State) → StandsLate w (early_said ds) r → TakesAll (of_kind View texts ++ of_kind Rule texts) r (texts_of_kind Early texts) Behind
     from-views r h =
         all-more (of_kind View texts) (of_kind Rule texts) r (texts_of_kind Early texts) Behind
-        (views-taken text-step keeps-made w ds made kept.well_made (texts_of_kind View texts) r (texts_of_kind Early texts)
+        (views-taken text-step keeps-made w ds made kept.well_made none (texts_of_kind View texts) r (texts_of_kind Early texts)
         (λ next more. TakesAll (of_kind Rule texts) next more Behind) h views-here from-rules)
 
     -- behind the texts before the rows

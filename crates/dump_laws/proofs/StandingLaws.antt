@@ -1,6 +1,7 @@
 -- A state in which some of what is said has been declared: what it has is like what the final state has under that name.
 --     moved-entries      what is said adds the like at other places
 --     stands-more, none-stand      it has one more, and it has nothing
+--     stands-logless, stands-unturned, stands-counted      it has no log, and it is so with a statement more
 --     alike-so-far      each name that it has stands for the like
 --     stands-for      it has the names of what was declared
 --     free-so-far      the names of what is still to be declared are free
@@ -18,8 +19,10 @@ use Rattle.value_core.specs.Values.{Name}
 use Rattle.tree_core.specs.Relvars.{State, PlainRelvar, Entries, Rules, relvar_named}
 use Rattle.tree_core.specs.Trees.{Test}
 use Rattle.meaning_core.specs.Declarations.{counted}
+use Rattle.meaning_core.specs.Logs.{has_log, turned_logs}
 use Rattle.meaning_core.specs.WellMade.{sizes_of, IsWellMade}
 use Rattle.meaning_core.proofs.ElsewhereLemmas.{view_names, IsApart}
+use Rattle.meaning_core.proofs.LogLemmas.{turned-none}
 use Rattle.meaning_core.proofs.MadeLemmas.{own_name}
 use Rattle.meaning_laws.specs.Likeness.{IsLike, LikeIf, Alike, has_entry}
 use Rattle.meaning_laws.specs.Moved.{moved_entry}
@@ -40,7 +43,8 @@ use Rattle.dump_laws.proofs.ListLaws.{given-last}
 use Rattle.dump_laws.proofs.MadeLaws.{entry-name, named-in, in-named, entry-in}
 use Rattle.dump_laws.specs.Replays.{lacks}
 use Rattle.dump_laws.specs.Standing.{AreLikeEntries, AreMovedRules, Stands}
-use Rattle.dump_laws.proofs.LikeEntries.{like-append, BothLike, named-like, full-one, rules-append}
+use Rattle.dump_laws.proofs.LikeEntries.{like-append, like-logless, BothLike, named-like, full-one, rules-append}
+use Rattle.dump_laws.proofs.LoggedLaws.{said-logless}
 use Rattle.dump_laws.proofs.PlaceLemmas.{named-once}
 
 -- ---- one more
@@ -70,8 +74,16 @@ stands-more done r f d h = record {
       (rules-append (flat_map rules_said done) r.rules (rules_said d) (rules_said (moved_said f d)) h.rules (moved-rules f d));
 }
 
+-- no text says a log, and so it has none
+pub stands-logless : (done : List Said) (r : State) → Stands done r → has_log r.relvars ≡ false
+stands-logless done r h = like-logless (flat_map entries_said done) r.relvars h.relvars (said-logless done)
+
+pub stands-unturned : (done : List Said) (r : State) → Stands done r → turned_logs r.relvars ≡ r.relvars
+stands-unturned done r h = turned-none r.relvars (stands-logless done r h)
+
 pub stands-counted : (done : List Said) (r : State) → Stands done r → Stands done (counted r)
-stands-counted done r h = record { ordinals = h.ordinals; relvars = h.relvars; rules = h.rules }
+stands-counted done r h =
+    record { ordinals = h.ordinals; relvars = subst (AreLikeEntries (flat_map entries_said done)) (sym (stands-unturned done r h)) h.relvars; rules = h.rules }
 
 pub none-stand : (r : State) → r.ordinals ≡ [] → r.relvars ≡ [] → r.rules ≡ [] → Stands [] r
 none-stand r a b c = record {

@@ -1,5 +1,5 @@
 -- What is asked of a state before a text is declared anew.
---     entries-number      how many relvars and views are said
+--     entries-number      how many relvars and views are said at most
 --     has-room      what is said stays below the limits, by numbers
 --     entry-typed      an entry of the final state is well made behind those before it
 --     view-typed, rule-typed      a view and a database constraint that are said are typed for the final state
@@ -27,6 +27,7 @@ use Rattle.meaning_laws.proofs.EntriesFound.{relvar-at}
 use Rattle.dump_core.specs.Texts.{SourceText}
 use Rattle.assign_core.proofs.NameLemmas.{relvars_differ}
 use Rattle.typing_laws.specs.Saying.{Said, said_ordinal, said_base, said_view, said_history, said_rule, names_said, moved_said, said_names_any, entries_said, ordinals_said, rules_said, IsFree, HasRoom}
+use Rattle.typing_laws.proofs.LogsAlike.{logs-alike}
 use Rattle.typing_laws.proofs.NodesAlike.{nodes-alike, test-nodes-alike}
 use Rattle.dump_laws.specs.Kept.{is_early, is_late, IsTextOf, IsSmall, IsMadeOf}
 use Rattle.part_laws.specs.Parts.{emptied}
@@ -55,12 +56,12 @@ module _ (w : State) (ds : List Said) (made : IsMadeOf w ds) (well : IsWellMade 
   abbrev all_said : List Said
   all_said = in_script_order ds
 
-  pub entries-number : length (flat_map entries_said all_said) ≡ length w.relvars
+  pub entries-number : length (flat_map entries_said all_said) ≤ length w.relvars
   entries-number =
       let whole = ap length (order-entries w ds made) in
       let both = length-append (map emptied (filter is_early w.relvars)) (filter is_late w.relvars) in
       let first = length-map (filter is_early w.relvars) emptied in
-      let parts = parts-length is_early w.relvars in
+      let parts = parts-length w.relvars in
       omega (arith, whole, both, first, parts)
 
   -- ---- what is said is typed
@@ -164,6 +165,8 @@ module _ (w : State) (ds : List Said) (made : IsMadeOf w ds) (well : IsWellMade 
       text = text;
       ordinals = stands.ordinals ∙ same;
       alike = alike-here;
+      logs = logs-alike (lacks r) (sizes_of w.ordinals) (sizes_of r.ordinals) w.relvars r.relvars well.relvars fits.relvars alike-here
+          (apart-so-far w r fits (relvars_differ w well) alike-here);
       known = known;
       free = free;
       room = λ f. has-room r d few-ordinals few-relvars few-rules f (small d here-said known (each-in (IsSmall w) ds (recursion_from_All (IsSmall w) ds made.small) d here-said) f);

@@ -1,7 +1,7 @@
 -- Texts and what they say.
 --     text-key, text-kind      a text has the name and the kind of what it says
 --     texts-stay      texts of which each says the same in another state
---     texts-more, texts-left      one text more, and texts of which one is forgotten
+--     texts-more, texts-left, all-left      one text more, and texts of which one is forgotten, or none
 use Rattle.std.proofs.Common.{◌≡◌, inl, inr, Bool, true, false, not, cond, List, [], ◌∷◌, ◌++◌, refl, sym, ap, ◌∙◌, subst, append_assoc, append-nil, Ok}
 use Rattle.std.specs.List.{flat_map}
 use Rattle.std.specs.Str.{bytes_eq}
@@ -147,7 +147,7 @@ texts-more w types (k ∷ texts) (z ∷ ds) t d are is = (
 )
 
 -- none of them has the name
-all-left : (w : State) (types : List OrdinalNames) (texts : List SourceText) (ds : List Said) (name : Name) → ((z : Said) → In z ds → bytes_eq (key_said z) name ≡ false)
+pub all-left : (w : State) (types : List OrdinalNames) (texts : List SourceText) (ds : List Said) (name : Name) → ((z : Said) → In z ds → bytes_eq (key_said z) name ≡ false)
     → AreTextsFrom w types texts ds → AreTextsFrom w types (forgotten name texts) ds
 all-left w types [] [] name others are = tt
 all-left w types [] (d ∷ ds) name others are = absurd are

@@ -61,7 +61,7 @@ module _ (w r : State) (types more : List OrdinalNames) (t : SourceText) (d : Sa
   -- the statement is typed and performed, wherever its places lie
   typed-moved : (f : Place → Place) → checked r (moved_statement f is.text.tree) ≡ Ok (plain_of (moved_said f d))
   typed-moved f =
-      let says = says-elsewhere (lacks r) f (record w { ordinals = types }) r more is.alike is.ordinals is.text.tree d is.known is.text.says in
+      let says = says-elsewhere (lacks r) f (record w { ordinals = types }) r more is.alike is.ordinals is.logs is.text.tree d is.known is.text.says in
       says-checked r (moved_statement f is.text.tree) (moved_said f d) says (subst (IsFree r) (sym (said-moved-names f d)) is.free) (is.room f)
 
   answered-moved : (f : Place → Place) → of_tree r (moved_statement f is.text.tree) ≡ Changed (with_said r (moved_said f d))

@@ -8,13 +8,14 @@ use Rattle.std.specs.List.{filter}
 use Rattle.utd_io.specs.Io.{Gains}
 use Rattle.tree_core.specs.Relvars.{State}
 use Rattle.tree_core.specs.declared.relvar.Relvars.{Relvars as Database}
+use Rattle.meaning_core.specs.Logs.{has_log}
 use Rattle.assign_core.specs.Databases.{IsKept}
 use Rattle.meaning_laws.specs.Likeness.{Alike}
 use Rattle.dump_core.specs.Texts.{SourceText}
-use Rattle.dump_core.specs.Dumps.{script_of}
 use Rattle.dump_core.specs.Inserts.{HaveRelations}
 use Rattle.part_laws.specs.Parts.{is_base}
 use Rattle.utd_session.specs.Databases.{state_of}
+use Rattle.utd_session.specs.Dumped.{dump_in}
 use Rattle.utd_session.specs.Machine.{Step}
 use Rattle.utd_session.specs.Run.{IsAfter}
 use Rattle.utd_session.specs.Statements.{statements_within}
@@ -28,7 +29,7 @@ IsSound w = IsKept w × HaveRelations w.relvars
 
 -- The same ordinal types, and the same base relvars with the same values and constraints, each in the same order. Places aside, the same
 -- views: those of histories in the same order among the base relvars, the others in the same order among themselves. Places aside, the
--- same database constraints in the same order. Places may be mapped in any way.
+-- same database constraints in the same order. Places may be mapped in any way. Neither has a log.
 pub record IsSameState (w r : State) : Type 0 where
   pub ordinals : r.ordinals ≡ w.ordinals
   pub bases : filter is_base r.relvars ≡ filter is_base w.relvars
@@ -36,6 +37,8 @@ pub record IsSameState (w r : State) : Type 0 where
   pub views : AreLikeEntries (filter is_late w.relvars) (filter is_late r.relvars)
   pub there : Alike (λ name. false) w.relvars r.relvars
   pub rules : AreMovedRules w.rules r.rules
+  pub logless : has_log w.relvars ≡ false
+  pub logless_there : has_log r.relvars ≡ false
 
 -- The machine reads the script to its end, accepts each of its statements and writes nothing. It is left in the same state. The dump of
 -- that state, and of the texts that the script leaves, is the script.
@@ -47,7 +50,7 @@ pub record GivesBack (script : List ℕ) (w : State) : Type 0 where
   pub silent : again.output ≡ []
   pub same : IsSameState w again.state
   pub kept : AreTextsOf script texts
-  pub back : script_of texts again.state ≡ Some script
+  pub back : dump_in texts again.state ≡ Some script
 
 -- what is written gives back the database, where there is one
 abbrev pub IsBack : Option (List ℕ) → Option (List ℕ) → Option Database → Type 0

@@ -1,11 +1,11 @@
 -- What the kept texts of a run say of the state that it leaves.
 --     kind_said, key_said      the kind of the text that says something, and the name under which it is kept
 --     IsTextOf, AreTextsFrom, AreTexts      a text is that of a statement that says this in a state, and texts in order
---     is_early, is_late      a base relvar or the view of a history, or another view
+--     is_early, is_late      a base relvar or the view of a history, or another view; a log is neither
 --     is_early_said, is_view_said      whether something is said by a text that stands before all rows, or by one of a view
---     IsListedAs      a state has just what is said, and values of its base relvars
+--     IsListedAs      a state has just what is said, values of its base relvars, and logs
 --     IsSmall, IsMadeOf      the same, and all stays below the limits
-use Rattle.std.specs.Prelude.{◌≡◌, ◌≤◌, ℕ, Bool, true, false, not, List, [], ◌∷◌, ◌++◌, length, map, Some, None}
+use Rattle.std.specs.Prelude.{◌≡◌, ◌≤◌, ℕ, Bool, true, false, List, [], ◌∷◌, ◌++◌, length, map, Some, None}
 use Rattle.std.specs.List.{All, filter, flat_map, IsDistinct}
 use Rattle.std.specs.Str.{bytes_eq}
 use Rattle.point_core.specs.declared.fault.Place.{Place}
@@ -73,13 +73,20 @@ abbrev pub is_early_relvar : PlainRelvar → Bool
 is_early_relvar (base value constraints) = true
 is_early_relvar (view t None) = false
 is_early_relvar (view t (Some names)) = true
-is_early_relvar (log o k last w) = false
+is_early_relvar (log of side last value) = false
+
+-- a view that is no history's
+abbrev pub is_late_relvar : PlainRelvar → Bool
+is_late_relvar (base value constraints) = false
+is_late_relvar (view t None) = true
+is_late_relvar (view t (Some names)) = false
+is_late_relvar (log of side last value) = false
 
 abbrev pub is_early : Name × PlainRelvar → Bool
 is_early e = is_early_relvar e.1
 
 abbrev pub is_late : Name × PlainRelvar → Bool
-is_late e = not (is_early e)
+is_late e = is_late_relvar e.1
 
 -- said by a text that stands before all rows, or by the text of a view
 abbrev pub is_early_said : Said → Bool
@@ -88,7 +95,7 @@ is_early_said d = same_kind (kind_said d) Early
 abbrev pub is_view_said : Said → Bool
 is_view_said d = same_kind (kind_said d) View
 
--- The state has just what is said, each kind in its order, and values of its base relvars beside that. No name is said twice.
+-- The state has just what is said, each kind in its order, and beside that values of its base relvars, and logs. No name is said twice.
 pub record IsListedAs (w : State) (ds : List Said) : Type 0 where
   pub ordinals : w.ordinals ≡ flat_map ordinals_said ds
   pub early : map emptied (filter is_early w.relvars) ≡ flat_map entries_said (filter is_early_said ds)

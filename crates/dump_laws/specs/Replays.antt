@@ -8,6 +8,7 @@ use Rattle.point_core.specs.declared.fault.Place.{Place}
 use Rattle.value_core.specs.declared.list.OrdinalNames.{OrdinalNames}
 use Rattle.value_core.specs.Values.{Name}
 use Rattle.tree_core.specs.Relvars.{State, relvar_named}
+use Rattle.meaning_core.specs.Logs.{over_log}
 use Rattle.meaning_core.specs.Truths.{holds_in}
 use Rattle.dump_core.specs.Texts.{SourceText}
 use Rattle.utd_lexer.specs.Gaps.{without_gaps}
@@ -16,7 +17,7 @@ use Rattle.type_check.specs.Checks.{checked}
 use Rattle.utd_statement.specs.Answers.{Changed, of_tree}
 use Rattle.utd_statement.specs.Keeping.{Keeps, keeping_of}
 use Rattle.utd_statement.specs.Readings.{Tree as TreeOf, IsText}
-use Rattle.meaning_laws.specs.Likeness.{Alike}
+use Rattle.meaning_laws.specs.Likeness.{Alike, unknown}
 use Rattle.text_laws.specs.Statements.{IsOneStatement}
 use Rattle.typing_laws.specs.Saying.{Said, said_ordinal, said_base, said_view, said_history, said_rule, moved_said, said_names_any, names_said, plain_of, IsFree, HasRoom, with_said}
 use Rattle.dump_laws.specs.Kept.{IsTextOf}
@@ -33,12 +34,13 @@ IsHeld r (said_view name t) = Unit {0}
 IsHeld r (said_history made) = Unit {0}
 IsHeld r (said_rule name t) = holds_in r.relvars t ≡ true
 
--- The text says this in a state with fewer ordinal types. What it names stands for the like here; its names are free, there is room,
--- and a database constraint holds, wherever its places lie.
+-- The text says this in a state with fewer ordinal types. What it names stands for the like here, and for a log or a view over one exactly
+-- where it does there; its names are free, there is room, and a database constraint holds, wherever its places lie.
 pub record IsStepFor (w r : State) (types more : List OrdinalNames) (t : SourceText) (d : Said) : Type 0 where
   pub text : IsTextOf (record w { ordinals = types }) t d
   pub ordinals : r.ordinals ≡ types ++ more
   pub alike : Alike (lacks r) w.relvars r.relvars
+  pub logs : (name : Name) → unknown (lacks r) w.relvars name ≡ false → over_log w.relvars name ≡ over_log r.relvars name
   pub known : said_names_any (lacks r) d ≡ false
   pub free : IsFree r (names_said d)
   pub room : (f : Place → Place) → HasRoom r (moved_said f d)

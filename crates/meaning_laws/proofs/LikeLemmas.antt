@@ -18,12 +18,12 @@ use Rattle.meaning_laws.proofs.SameMoved.{tree-same, tree-twice, heading-moved, 
 pub like-moved : (f : Place → Place) (x : PlainRelvar) → IsLike x (moved_relvar f x)
 like-moved f (base v c) = (refl, refl)
 like-moved f (view t h) = ((f, refl), refl)
-like-moved f (log o i last w) = refl
+like-moved f (log o i last w) = (refl, refl, refl)
 
 pub like-itself : (x : PlainRelvar) → IsLike x x
 like-itself (base v c) = (refl, refl)
 like-itself (view t h) = ((λ p. p, sym (tree-same t)), refl)
-like-itself (log o i last w) = refl
+like-itself (log o i last w) = (refl, refl, refl)
 
 pub like-then : (x y z : PlainRelvar) → IsLike x y → IsLike y z → IsLike x z
 like-then (base v c) (base u d) (base w e) p q = (q.0 ∙ p.0, q.1 ∙ p.1)
@@ -36,12 +36,16 @@ like-then (base v c) (base u d) (log o i last w) p q = absurd q
 like-then (base v c) (log o i last w) z p q = absurd p
 like-then (view t h) (view u g) (log o i last w) p q = absurd q
 like-then (view t h) (log o i last w) z p q = absurd p
-like-then (log o i last w) y z p q = subst (λ (x : PlainRelvar). IsLike x z) p q
+like-then (log o i last w) (base u d) z p q = absurd p
+like-then (log o i last w) (view u g) z p q = absurd p
+like-then (log o i last w) (log a j n v) (base u d) p q = absurd q
+like-then (log o i last w) (log a j n v) (view u g) p q = absurd q
+like-then (log o i last w) (log a j n v) (log b k m u) p q = (q.0 ∙ p.0, q.1 ∙ p.1, q.2 ∙ p.2)
 
 pub value-itself : (x : PlainRelvar) → HasValue x x
 value-itself (base v c) = refl
 value-itself (view t h) = tt
-value-itself (log o i last w) = tt
+value-itself (log o i last w) = refl
 
 -- two like relvars or views have the same heading
 pub like-heading : (x y : PlainRelvar) → IsLike x y → relvar_heading y ≡ relvar_heading x
@@ -51,7 +55,9 @@ like-heading (view t h) (base u d) p = absurd p
 like-heading (view t h) (view u g) p = ap relvar_heading (λ i. view (p.0.1 i) g) ∙ heading-moved p.0.0 t
 like-heading (base v c) (log o i last w) p = absurd p
 like-heading (view t h) (log o i last w) p = absurd p
-like-heading (log o i last w) y p = ap relvar_heading p
+like-heading (log o i last w) (base u d) p = absurd p
+like-heading (log o i last w) (view u g) p = absurd p
+like-heading (log o i last w) (log a j n v) p = p.2
 
 -- ---- where a name stands for one
 
@@ -63,7 +69,7 @@ values-one : (o : Option PlainRelvar) → ValueIf o o
 values-one None = tt
 values-one (Some (base v c)) = refl
 values-one (Some (view t h)) = tt
-values-one (Some (log o i last w)) = tt
+values-one (Some (log o i last w)) = refl
 
 like-if-then : (o p q : Option PlainRelvar) → LikeIf o p → LikeIf p q → LikeIf o q
 like-if-then None p q a b = tt
@@ -82,8 +88,12 @@ value-if-then (Some (base v c)) (Some (base u d)) (Some (base w e)) l a b = b �
 value-if-then (Some (base v c)) (Some (base u d)) (Some (view s k)) l a b = absurd b
 value-if-then (Some (base v c)) (Some (base u d)) (Some (log o i last w)) l a b = absurd b
 value-if-then (Some (base v c)) (Some (log o i last w)) q l a b = absurd l
-value-if-then (Some (log o i last w)) (Some y) None l a b = tt
-value-if-then (Some (log o i last w)) (Some y) (Some z) l a b = tt
+value-if-then (Some (log o i last w)) (Some (base u d)) q l a b = absurd l
+value-if-then (Some (log o i last w)) (Some (view u g)) q l a b = absurd l
+value-if-then (Some (log o i last w)) (Some (log p j n v)) None l a b = absurd b
+value-if-then (Some (log o i last w)) (Some (log p j n v)) (Some (base u d)) l a b = absurd b
+value-if-then (Some (log o i last w)) (Some (log p j n v)) (Some (view u g)) l a b = absurd b
+value-if-then (Some (log o i last w)) (Some (log p j n v)) (Some (log r k m u)) l a b = b ∙ a
 
 -- likeness and the same value
 abbrev pub IsLikeAndValued : PlainRelvar → PlainRelvar → Type 0
@@ -140,7 +150,7 @@ moved-if : (f : Place → Place) (o : Option PlainRelvar) → LikeIf o (option_m
 moved-if f None = (tt, tt)
 moved-if f (Some (base v c)) = ((refl, refl), refl)
 moved-if f (Some (view t h)) = (((f, refl), refl), tt)
-moved-if f (Some (log o i last w)) = (refl, tt)
+moved-if f (Some (log o i last w)) = ((refl, refl, refl), refl)
 
 -- a state is like itself with its places moved
 pub alike-moved : (some : Name → Bool) (f : Place → Place) (es : Entries) → Alike some es (map (moved_entry f) es)

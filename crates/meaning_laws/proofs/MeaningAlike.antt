@@ -30,7 +30,9 @@ relvar-gives known there out (base v c) (view u g) same agree none = absurd same
 relvar-gives known there out (view t h) (base u d) same agree none = absurd same.0
 relvar-gives known there out (base v c) (log o i last w) same agree none = absurd same.0
 relvar-gives known there out (view t h) (log o i last w) same agree none = absurd same.0
-relvar-gives known there out (log o i last w) y same agree none = λ rows e. ap (relvar_meaning there) same.0 ∙ e
+relvar-gives known there out (log o i last w) (base u d) same agree none = absurd same.0
+relvar-gives known there out (log o i last w) (view u g) same agree none = absurd same.0
+relvar-gives known there out (log o i last w) (log p j n v) same agree none = λ rows e. ap (λ (r : Relation). Ok r.rows) same.1 ∙ e
 relvar-gives known there out (view t h) (view u g) same agree none =
     subst (λ (z : Tree). Gives (meaning known plainly t) (meaning there plainly z)) (sym same.0.0.1) (meaning-gives same.0.0.0 out known there agree plainly t none)
 

@@ -3,7 +3,7 @@
 --     none-named, own-named      what free names and the new one stand for
 --     with-relvar      what is well made behind the others keeps the state well made
 use Rattle.std.specs.Prelude.{◌≡◌, Bool, true, false, List, [], ◌∷◌, ◌++◌, map, Some, None, refl, if◌then◌else◌}
-use Rattle.std.proofs.Common.{ap, ◌∙◌, subst}
+use Rattle.std.proofs.Common.{get_or, ap, ◌∙◌, subst}
 use Rattle.std.specs.List.{AllByRecursion, IsDistinct}
 use Rattle.std.specs.Str.{bytes_eq}
 use Rattle.base_core.proofs.ListLemmas.{AllByRecursion-push, IsDistinct-push}
@@ -12,6 +12,7 @@ use Rattle.value_core.specs.Values.{Name}
 use Rattle.tree_core.specs.Relvars.{State, PlainRelvar, Entries, relvar_named}
 use Rattle.meaning_core.specs.Declarations.{with_relvar}
 use Rattle.meaning_core.specs.WellMade.{sizes_of, all_names, IsRelvar, IsWellMade}
+use Rattle.meaning_core.proofs.LogLemmas.{apart-appended}
 use Rattle.meaning_core.proofs.RelvarLemmas.{more_relvars, more_names}
 use Rattle.meaning_core.proofs.StaysTyped.{rules-behind}
 use Rattle.since_during.specs.Histories.{IsFreeIn}
@@ -58,4 +59,5 @@ with-relvar s own r made free is = record {
   relvars = more_relvars (sizes_of s.ordinals) [] s.relvars own r made.relvars is;
   few_rules = made.few_rules;
   rules = rules-behind s own r made.rules;
+  apart = λ k d l. apart-appended (sizes_of s.ordinals) s.relvars ((own, r) ∷ []) (get_or s.rules k d).1 (made.rules k d l) (made.apart k d l);
 }

@@ -1,0 +1,2 @@
+pub mod NamesOpen
+pub mod NodeNames

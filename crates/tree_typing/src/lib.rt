@@ -3,8 +3,10 @@
 
 mod comparisons;
 mod relvars;
+mod scopes;
 mod trees;
 
-pub use comparisons::type_test;
+pub use comparisons::{type_test, type_test_in};
 pub use relvars::relvar_of;
+pub use scopes::Scope;
 pub use trees::type_tree;

@@ -10,14 +10,15 @@ use Rattle.meaning_core.specs.WellMade.{IsWellMade}
 use Rattle.tree_typing.specs.Trees.{tree_typed, test_typed}
 use Rattle.declaration_typing.specs.Drops.{dropped}
 use Rattle.declaration_typing.specs.Histories.{history_declared}
+use Rattle.declaration_typing.specs.Logs.{log_declared}
 use Rattle.declaration_typing.specs.Ordinals.{ordinal_declared}
 use Rattle.declaration_typing.specs.Relvars.{relvar_declared}
 use Rattle.declaration_typing.specs.Rules.{rule_declared, rule_dropped}
 use Rattle.declaration_typing.specs.Views.{view_declared}
 use Rattle.item_typing.specs.Items.{assignment_typed}
 use Rattle.type_check.specs.declared.checked.Checked.{Checked}
-use Rattle.type_check.specs.Checks.{Plain, declare_ordinal, declare_base, declare_view, declare_history, remove, declare_rule, remove_rule, assign, print, ask, read_checked, giving, checked_var, checked, Checks, IsTypedPlain}
-use Rattle.type_check.proofs.DeclarationLemmas.{ordinal-made, relvar-made, view-made, history-made, drop-made, rule-made, rule-gone}
+use Rattle.type_check.specs.Checks.{Plain, declare_ordinal, declare_base, declare_view, declare_history, declare_log, remove, declare_rule, remove_rule, assign, print, ask, read_checked, giving, checked_var, checked, Checks, IsTypedPlain}
+use Rattle.type_check.proofs.DeclarationLemmas.{ordinal-made, relvar-made, view-made, history-made, log-made, drop-made, rule-made, rule-gone}
 use Rattle.type_check.proofs.ItemTypedLemmas.{assignment-sound}
 use Rattle.type_check.proofs.TreeLemmas.{tree-sound, test-sound}
 
@@ -39,7 +40,8 @@ module _ (state : State) (made : IsWellMade state) where
   checked-typed syntax.Nothing = tt
   checked-typed (syntax.DeclareOrdinal at w values) = given declare_ordinal (IsTypedPlain state) (ordinal_declared state w values) (ordinal-made state made w values)
   checked-typed (syntax.DeclareRelvar at w form) = var-typed w form
-  checked-typed (syntax.DeclareLog at log source attribute) = tt
+  checked-typed (syntax.DeclareLog at log source attribute) =
+      given declare_log (IsTypedPlain state) (log_declared state log source attribute) (log-made state made log source attribute)
   checked-typed (syntax.DeclareHistory at w h key since began during lasted point) =
       given declare_history (IsTypedPlain state) (history_declared state at w h key since began during lasted point)
       (history-made state made at w h key since began during lasted point)

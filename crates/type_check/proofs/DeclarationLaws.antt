@@ -22,7 +22,7 @@ use Rattle.relation_typing.specs.Attributes.{name_typed, new_name as new_attribu
 use Rattle.relation_typing.specs.Headings.{heading_typed}
 use Rattle.node_typing.specs.Positions.{check, position_typed}
 use Rattle.node_typing.specs.Lists.{named_in, kind_named, list_checked, words_of}
-use Rattle.tree_typing.specs.Trees.{tree_typed, test_typed}
+use Rattle.tree_typing.specs.Trees.{tree_typed, test_typed_in}
 use Rattle.declaration_typing.specs.Names.{is_rule, is_taken, new_name, room_for}
 use Rattle.declaration_typing.specs.Ordinals.{with_value, values_typed, few_values, ordinal_declared}
 use Rattle.declaration_typing.specs.Constraints.{names_typed, key_words, base_heading, heading_there, position_there, positions_there, reference_typed, foreign_typed, key_typed, list_typed, kept_by, listed_key, packed_typed, unpacked_typed, used_typed, constraint_typed, constraints_typed, refused_at, few_constraints}
@@ -30,14 +30,15 @@ use Rattle.declaration_typing.specs.Relvars.{relvar_declared}
 use Rattle.declaration_typing.specs.Nodes.{nodes_of, test_nodes}
 use Rattle.declaration_typing.specs.Views.{room_for_view, view_declared}
 use Rattle.declaration_typing.specs.Histories.{relvars_named, brace_of, key_names, facts_typed, attributes_named, room_for_three, history_declared}
+use Rattle.declaration_typing.specs.Logs.{room_for_log, log_declared}
 use Rattle.declaration_typing.specs.Drops.{is_of_history, is_used, dropped}
-use Rattle.declaration_typing.specs.Rules.{room_for_rule, rule_declared, rule_dropped}
+use Rattle.declaration_typing.specs.Rules.{room_for_rule, rule_scope, rule_declared, rule_dropped}
 use Rattle.type_check.specs.Refusals.{IsNotE06}
 use Rattle.type_check.proofs.Refused.{then-fine, choice-fine}
 use Rattle.type_check.proofs.ScalarLaws.{point-fine}
 use Rattle.type_check.proofs.RelationLaws.{name-fine, new-name-fine, heading-fine}
 use Rattle.type_check.proofs.NodeLaws.{check-fine, checked-fine, position-fine, positions-fine, list-fine}
-use Rattle.type_check.proofs.TreeLaws.{tree-fine, test-fine}
+use Rattle.type_check.proofs.TreeLaws.{tree-fine, test-fine-in}
 
 -- ---- names of ordinal types, relvars, views and database constraints
 
@@ -192,6 +193,22 @@ history-fine s place v h key b p d i t first facts second point third span =
     then-fine (attributes_named of.0 p i) _ (attributes-named-fine of.0 p i point span) (λ ends.
     then-fine (room_for_three s v.place) _ (check-fine v.place E22 (λ e. cc) (nat_le (length s.relvars) (most_relvars - 3))) (λ room. tt)))))
 
+-- ---- logs
+
+room-for-log-fine : (s : State) (heading : Heading) (place : Place) → IsNotE06 (room_for_log s heading place)
+room-for-log-fine s heading place = checked-fine place E17 (λ e. cc) (nat_le (length heading) (most_attributes - 1)) _ (λ few. room-fine s place)
+
+pub log-fine : (s : State) (l r t : Word) → NameIn has_no_value l → NameIn has_no_value r → NameIn has_no_value t → IsNotE06 (log_declared s l r t)
+unfolding log_declared
+log-fine s l r t first second third =
+    then-fine (new_name s l) _ (free-name-fine s l first) (λ name.
+    then-fine (name_typed r) _ (name-fine r second) (λ of.
+    then-fine (base_heading r.place (relvar_named s.relvars of)) _ (base-heading-fine r.place (relvar_named s.relvars of)) (λ heading.
+    then-fine (new_attribute heading t) _ (new-name-fine heading t third) (λ attribute.
+    then-fine (room_for_log s heading l.place) _ (room-for-log-fine s heading l.place) (λ room. tt)))))
+
+-- ---- drops
+
 pub dropped-fine : (s : State) (w : Word) → NameIn has_no_value w → IsNotE06 (dropped s w)
 unfolding dropped
 dropped-fine s w h =
@@ -209,7 +226,7 @@ pub rule-fine : (s : State) (w : Word) (test : TestP) → NameIn has_no_value w 
 unfolding rule_declared
 rule-fine s w test h g =
     then-fine (new_name s w) _ (free-name-fine s w h) (λ name.
-    then-fine (test_typed s test) _ (test-fine s test g) (λ t.
+    then-fine (test_typed_in (rule_scope s) test) _ (test-fine-in (rule_scope s) test g) (λ t.
     then-fine (room_for_rule s w.place t) _ (room-for-rule-fine s w.place t) (λ room. tt)))
 
 pub rule-dropped-fine : (s : State) (w : Word) → NameIn has_no_value w → IsNotE06 (rule_dropped s w)

@@ -1,4 +1,4 @@
--- What declarations and drops make of a well made state is well made, and a history that is declared is typed for it.
+-- What declarations and drops make of a well made state is well made, and a history or a log that is declared is typed for it.
 use Rattle.std.specs.Prelude.{List, Ok, Err, IfOk}
 use Rattle.point_core.specs.Faults.{OrFault}
 use Rattle.point_core.specs.declared.fault.Place.{Place}
@@ -9,17 +9,20 @@ use Rattle.tree_core.specs.Relvars.{State}
 use Rattle.meaning_core.specs.Declarations.{with_declaration, without_group, with_rule, without_rule}
 use Rattle.meaning_core.specs.Meanings.{positions_of}
 use Rattle.meaning_core.specs.Typing.{IsList}
+use Rattle.meaning_core.specs.Updates.{IsTypedLog}
 use Rattle.meaning_core.specs.WellMade.{IsWellMade, IsTypedTestFor}
 use Rattle.since_during.specs.Histories.{IsTypedHistory}
 use Rattle.node_typing.specs.Lists.{list_checked}
 use Rattle.declaration_typing.specs.Drops.{dropped}
 use Rattle.declaration_typing.specs.Histories.{history_declared}
+use Rattle.declaration_typing.specs.Logs.{log_declared}
 use Rattle.declaration_typing.specs.Ordinals.{ordinal_declared}
 use Rattle.declaration_typing.specs.Relvars.{relvar_declared}
-use Rattle.declaration_typing.specs.Rules.{rule_declared, rule_dropped}
+use Rattle.declaration_typing.specs.Rules.{rule_scope, rule_declared, rule_dropped}
 use Rattle.declaration_typing.specs.Views.{view_declared}
 use Rattle.declaration_typing.proofs.DropLaws.{dropped-kept}
 use Rattle.declaration_typing.proofs.HistoryLaws.{IsHistoryOf, history-kept}
+use Rattle.declaration_typing.proofs.LogLaws.{log-kept}
 use Rattle.declaration_typing.proofs.OrdinalLaws.{ordinal-kept}
 use Rattle.declaration_typing.proofs.RelvarLaws.{relvar-kept}
 use Rattle.declaration_typing.proofs.RuleLaws.{rule-kept, rule-dropped}
@@ -28,7 +31,7 @@ use Rattle.type_check.proofs.ListLemmas.{AreListed, list-sound, left-list}
 use Rattle.type_check.proofs.LiteralLemmas.{heading-declared}
 use Rattle.type_check.proofs.ScalarLemmas.{point-declared}
 use Rattle.type_check.proofs.SetTypedLemmas.{onward}
-use Rattle.type_check.proofs.TreeLemmas.{tree-sound, test-sound}
+use Rattle.type_check.proofs.TreeLemmas.{tree-sound, test-sound-in}
 
 -- a list over one heading
 list-made : (to : Heading) (list : NameListP) → IfOk (list_checked to to list) (λ (names : List Name). IsList to (positions_of to names))
@@ -63,11 +66,14 @@ module _ (state : State) (made : IsWellMade state) where
         during = is.free_during;
       }
 
+  pub log-made : (l r t : Word) → IfOk (log_declared state l r t) (IsTypedLog state)
+  log-made l r t = log-kept state l r t made
+
   pub drop-made : (w : Word) → IfOk (dropped state w) (λ name. IsWellMade (without_group name state))
   drop-made w = dropped-kept state w made
 
   pub rule-made : (w : Word) (test : TestP) → IfOk (rule_declared state w test) (λ r. IsWellMade (with_rule r.0 r.1 state) × IsTypedTestFor state r.1)
-  rule-made w test = rule-kept state w test made (test-sound state made test)
+  rule-made w test = rule-kept state w test made (test-sound-in (rule_scope state) made test)
 
   pub rule-gone : (w : Word) → IfOk (rule_dropped state w) (λ name. IsWellMade (without_rule name state))
   rule-gone w = rule-dropped state w made

@@ -17,13 +17,14 @@ use Rattle.declaration_typing.specs.Relvars.{relvar_declared}
 use Rattle.declaration_typing.specs.Rules.{rule_declared, rule_dropped}
 use Rattle.declaration_typing.specs.Views.{view_declared}
 use Rattle.declaration_typing.specs.Histories.{history_declared}
+use Rattle.declaration_typing.specs.Logs.{log_declared}
 use Rattle.declaration_typing.specs.Drops.{dropped}
 use Rattle.item_typing.specs.Items.{assignment_typed}
 use Rattle.type_check.specs.Checks.{Plain, giving, checked_var, checked}
 use Rattle.type_check.specs.Refusals.{IsNotE06}
 use Rattle.type_check.proofs.Refused.{then-fine}
 use Rattle.type_check.proofs.TreeLaws.{tree-fine, test-fine}
-use Rattle.type_check.proofs.DeclarationLaws.{ordinal-fine, base-relvar-fine, view-fine, history-fine, dropped-fine, rule-fine, rule-dropped-fine}
+use Rattle.type_check.proofs.DeclarationLaws.{ordinal-fine, base-relvar-fine, view-fine, history-fine, log-fine, dropped-fine, rule-fine, rule-dropped-fine}
 use Rattle.type_check.proofs.ItemLaws.{assignment-fine}
 
 giving-fine : {A : Type 0} (f : A → Plain) (typed : OrFault A) → IsNotE06 typed → IsNotE06 (giving f typed)
@@ -42,7 +43,7 @@ pub statement-fine : (state : State) (s : StatementP) → HasValues s → IsNotE
 statement-fine state syntax.Nothing h = tt
 statement-fine state (syntax.DeclareOrdinal at w values) h = giving-fine _ (ordinal_declared state w values) (ordinal-fine state w values h.0 h.1)
 statement-fine state (syntax.DeclareRelvar at w form) h = var-fine state w form h.0 h.1
-statement-fine state (syntax.DeclareLog at log source attribute) h = other-code
+statement-fine state (syntax.DeclareLog at log source attribute) h = giving-fine _ (log_declared state log source attribute) (log-fine state log source attribute h.0 h.1 h.2)
 statement-fine state (syntax.DeclareHistory at w heading key since began during lasted point) h =
     giving-fine _ (history_declared state at w heading key since began during lasted point)
     (history-fine state at w heading key since began during lasted point h.0 h.1 h.3 h.4 h.5 h.6)

@@ -13,16 +13,18 @@ use Rattle.value_core.specs.declared.refuse.Refuse.TheVariants as refuses
 use Rattle.value_core.specs.Values.{Name}
 use Rattle.scalar_typing.specs.Typings.{◌>>=◌}
 use Rattle.tree_core.specs.declared.declaration.HistoryData.{HistoryData}
+use Rattle.tree_core.specs.declared.declaration.LogData.{LogData}
 use Rattle.tree_core.specs.Items.{PlainItem, read_item}
 use Rattle.tree_core.specs.Relvars.{State}
 use Rattle.tree_core.specs.Trees.{Tree, Test, read_tree, read_test}
 use Rattle.meaning_core.specs.Declarations.{PlainDeclaration, read_declaration, with_declaration, without_group, with_rule, without_rule}
-use Rattle.meaning_core.specs.Updates.{IsTypedItem}
+use Rattle.meaning_core.specs.Updates.{IsTypedItem, IsTypedLog}
 use Rattle.meaning_core.specs.WellMade.{IsWellMade, IsTypedFor, IsTypedTestFor}
 use Rattle.since_during.specs.Histories.{IsTypedHistory}
 use Rattle.tree_typing.specs.Trees.{tree_typed, test_typed}
 use Rattle.declaration_typing.specs.Drops.{dropped}
 use Rattle.declaration_typing.specs.Histories.{history_declared}
+use Rattle.declaration_typing.specs.Logs.{log_declared}
 use Rattle.declaration_typing.specs.Ordinals.{ordinal_declared}
 use Rattle.declaration_typing.specs.Relvars.{relvar_declared}
 use Rattle.declaration_typing.specs.Rules.{rule_declared, rule_dropped}
@@ -31,14 +33,15 @@ use Rattle.item_typing.specs.Items.{assignment_typed}
 use Rattle.type_check.specs.declared.checked.Checked.{Checked}
 use Rattle.type_check.specs.declared.checked.Checked.TheVariants as variants
 
--- nothing; an ordinal type, a base relvar, a view or a history that is declared; a relvar or view that goes; a database constraint that
--- is declared, or goes; items of an assignment; a relation to be printed; a test whose truth is asked for
+-- nothing; an ordinal type, a base relvar, a view, a history or a log that is declared; a relvar, view or log that goes; a database constraint
+-- that is declared, or goes; items of an assignment; a relation to be printed; a test whose truth is asked for
 pub data Plain : Type 0 where
   nothing : Plain
   declare_ordinal : PlainDeclaration → Plain
   declare_base : PlainDeclaration → Plain
   declare_view : PlainDeclaration → Plain
   declare_history : HistoryData → Plain
+  declare_log : LogData → Plain
   remove : Name → Plain
   declare_rule : Name → Test → Plain
   remove_rule : Name → Plain
@@ -52,6 +55,7 @@ read_checked (variants.Ordinal d) = declare_ordinal (read_declaration d)
 read_checked (variants.Base d) = declare_base (read_declaration d)
 read_checked (variants.View d) = declare_view (read_declaration d)
 read_checked (variants.History h) = declare_history h
+read_checked (variants.Log d) = declare_log d
 read_checked (variants.Remove name) = remove name
 read_checked (variants.Rule name t) = declare_rule name (read_test t)
 read_checked (variants.Unrule name) = remove_rule name
@@ -67,7 +71,7 @@ giving f typed = do
   x ← typed
   Ok (f x)
 
--- a kept view and a log are read but cannot be performed: the one is refused at KEPT, the other at its name
+-- a kept view is read but cannot be performed: it is refused at KEPT
 abbrev pub checked_var : State → Word → VarFormP → OrFault Plain
 checked_var state w (syntax.BaseRelvar at heading constraints) = giving declare_base (relvar_declared state w heading constraints)
 checked_var state w (syntax.View at rel) = giving declare_view (view_declared state w rel)
@@ -77,7 +81,7 @@ abbrev pub checked : State → StatementP → OrFault Plain
 checked state syntax.Nothing = Ok nothing
 checked state (syntax.DeclareOrdinal at w values) = giving declare_ordinal (ordinal_declared state w values)
 checked state (syntax.DeclareRelvar at w form) = checked_var state w form
-checked state (syntax.DeclareLog at log source attribute) = Err (fault log.place E01)
+checked state (syntax.DeclareLog at log source attribute) = giving declare_log (log_declared state log source attribute)
 checked state (syntax.Drop at w) = giving remove (dropped state w)
 checked state (syntax.DeclareRule at w test) = giving (λ r. declare_rule r.0 r.1) (rule_declared state w test)
 checked state (syntax.DropRule at con w) = giving remove_rule (rule_dropped state w)
@@ -96,13 +100,14 @@ Checks (Err (refuses.Broken code relvar number)) meant = ⊥
 
 -- ---- what is given can be performed
 
--- what is given is typed for the state, and what it makes of the state is well made; so is what a typed history makes of it
+-- what is given is typed for the state, and what it makes of the state is well made; so is what a typed history or log makes of it
 abbrev pub IsTypedPlain : State → Plain → Type 0
 IsTypedPlain state nothing = Unit {0}
 IsTypedPlain state (declare_ordinal d) = IsWellMade (with_declaration state d)
 IsTypedPlain state (declare_base d) = IsWellMade (with_declaration state d)
 IsTypedPlain state (declare_view d) = IsWellMade (with_declaration state d)
 IsTypedPlain state (declare_history h) = IsTypedHistory state h
+IsTypedPlain state (declare_log d) = IsTypedLog state d
 IsTypedPlain state (remove name) = IsWellMade (without_group name state)
 IsTypedPlain state (declare_rule name t) = IsWellMade (with_rule name t state) × IsTypedTestFor state t
 IsTypedPlain state (remove_rule name) = IsWellMade (without_rule name state)

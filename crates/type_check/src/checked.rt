@@ -10,18 +10,19 @@ ghost use Rattle.meaning_core.specs.WellMade.{IsWellMade};
 ghost use Rattle.type_check.specs.Checks.{Checks, checked, checked_var, read_checked, IsTypedPlain};
 
 use declaration_typing::{
-    type_drop, type_history, type_ordinal, type_relvar, type_rule, type_rule_drop, type_view,
+    type_drop, type_history, type_log, type_ordinal, type_relvar, type_rule, type_rule_drop,
+    type_view,
 };
 use item_typing::type_items;
 use point_core::{Code, Fault, Place};
 use std::alloc::Global;
-use tree_core::{Declaration, HistoryData, Items, RelTest, RelTree, Relvars};
+use tree_core::{Declaration, HistoryData, Items, LogData, RelTest, RelTree, Relvars};
 use tree_typing::{type_test, type_tree};
 use utd_syntax::{Statement, VarForm, Word};
 use value_core::{Name, Refuse};
 
-/// What a statement does: nothing, declare an ordinal type, a base relvar, a view or a history, remove a relvar or view, declare or
-/// remove a database constraint, assign, print a relation, or tell whether a test holds.
+/// What a statement does: nothing, declare an ordinal type, a base relvar, a view, a history or a log, remove a relvar, view or log,
+/// declare or remove a database constraint, assign, print a relation, or tell whether a test holds.
 #[derive(Drop)]
 pub enum Checked {
     Nothing,
@@ -29,6 +30,7 @@ pub enum Checked {
     Base(Declaration),
     View(Declaration),
     History(HistoryData),
+    Log(LogData),
     Remove(Name),
     Rule(Name, RelTest),
     Unrule(Name),
@@ -86,7 +88,10 @@ fn type_statement(
             Ok(Checked::Ordinal(declaration))
         }
         Statement::Var(_, word, form) => type_var(alloc, word, form, relvars),
-        Statement::DeclareLog(_, log, _, _) => Err(unbuilt(log.place)),
+        Statement::DeclareLog(_, log, source, attribute) => {
+            let declared = type_log(alloc, log, source, attribute, relvars)?;
+            Ok(Checked::Log(declared))
+        }
         Statement::History(history) => {
             let declared = type_history(alloc, history, relvars)?;
             Ok(Checked::History(declared))

@@ -7,10 +7,10 @@ mod RowsElsewhere
 mod SweepsElsewhere
 mod NodesElsewhere
 mod UsingsElsewhere
-mod NodeNames
 pub mod TreesElsewhere
 pub mod SaysElsewhere
 pub mod SaysMore
 pub mod SaidLaws
 pub mod SaidNames
 pub mod NodesAlike
+pub mod LogsAlike

@@ -52,7 +52,9 @@ one-counts known there out (base v c) (view u g) like agree none = absurd like
 one-counts known there out (view t h) (base u d) like agree none = absurd like
 one-counts known there out (base v c) (log o i last w) like agree none = absurd like
 one-counts known there out (view t h) (log o i last w) like agree none = absurd like
-one-counts known there out (log o i last w) y like agree none = ap (relvar_count there) (sym like)
+one-counts known there out (log o i last w) (base u d) like agree none = absurd like
+one-counts known there out (log o i last w) (view u g) like agree none = absurd like
+one-counts known there out (log o i last w) (log p j n v) like agree none = refl
 one-counts known there out (view t h) (view u g) like agree none = count-moved known there out agree like.0.0 t none ∙ ap (count there) (sym like.0.1)
 
 module _ (some : Name → Bool) (sizes more : List ℕ) (es fs : Entries) (made : AreRelvars sizes [] es) (others : AreRelvars more [] fs) (alike : Alike some es fs) (apart : IsApart some es) where

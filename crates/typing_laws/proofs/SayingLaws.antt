@@ -23,14 +23,14 @@ use Rattle.tree_core.specs.Relvars.{State}
 use Rattle.tree_core.specs.Trees.{Tree, Test}
 use Rattle.meaning_core.specs.Declarations.{ordinal_type, base_relvar, view_relvar}
 use Rattle.node_typing.specs.Positions.{check}
-use Rattle.tree_typing.specs.Trees.{tree_typed, test_typed}
+use Rattle.tree_typing.specs.Trees.{tree_typed, test_typed_in}
 use Rattle.declaration_typing.specs.Constraints.{constraints_typed, few_constraints}
 use Rattle.declaration_typing.specs.Histories.{relvars_named, facts_typed, attributes_named, room_for_three, history_declared}
 use Rattle.declaration_typing.specs.Names.{is_taken, new_name, room_for}
 use Rattle.declaration_typing.specs.Nodes.{nodes_of, test_nodes}
 use Rattle.declaration_typing.specs.Ordinals.{few_values, ordinal_declared}
 use Rattle.declaration_typing.specs.Relvars.{relvar_declared}
-use Rattle.declaration_typing.specs.Rules.{room_for_rule, rule_declared}
+use Rattle.declaration_typing.specs.Rules.{rule_scope, room_for_rule, rule_declared}
 use Rattle.declaration_typing.specs.Views.{room_for_view, view_declared}
 use Rattle.type_check.specs.Checks.{Plain, declare_ordinal, declare_base, declare_view, declare_history, declare_rule, giving, checked}
 use Rattle.row_typing_laws.proofs.Parts.{parts-of, joined-of, check-holds, check-given}
@@ -178,7 +178,7 @@ module _ (s : State) where
   rule-says at w test p h =
       let d = parts-of (rule_declared s w test) _ p h in
       let name = parts-of (new_name s w) _ d.0 d.1 in
-      let t = parts-of (test_typed s test) _ d.0 name.2 in
+      let t = parts-of (test_typed_in (rule_scope s) test) _ d.0 name.2 in
       let rooms = parts-of (room_for_rule s w.place t.0) _ d.0 t.2 in
       let few = parts-of (check w.place E22 (nat_le (test_nodes s.relvars t.0) most_nodes)) _ rooms.0 rooms.1 in
       let is = new-parts s w name.0 name.1 in (
@@ -271,12 +271,12 @@ module _ (s : State) where
       (joined-of (check w.place E22 (nat_le (nodes_of s.relvars t) most_nodes)) _ tt tt
       (check-given w.place E22 (nat_le (nodes_of s.relvars t) most_nodes) tt (le-leb (nodes_of s.relvars t) most_nodes few)) (room-holds w.place room)) refl))
 
-  says-rule : (w : Word) (test : TestP) (name : Name) (t : Test) → name_typed w ≡ Ok name → test_typed s test ≡ Ok t → is_taken s name ≡ false
+  says-rule : (w : Word) (test : TestP) (name : Name) (t : Test) → name_typed w ≡ Ok name → test_typed_in (rule_scope s) test ≡ Ok t → is_taken s name ≡ false
       → test_nodes s.relvars t ≤ most_nodes → length s.rules < most_rules → rule_declared s w test ≡ Ok (name, t)
   unfolding rule_declared
   says-rule w test name t one two free few room =
       joined-of (new_name s w) _ name (name, t) (new-joined s w name one free)
-      (joined-of (test_typed s test) _ t (name, t) two
+      (joined-of (test_typed_in (rule_scope s) test) _ t (name, t) two
       (joined-of (room_for_rule s w.place t) _ tt (name, t)
       (joined-of (check w.place E22 (nat_le (test_nodes s.relvars t) most_nodes)) _ tt tt
       (check-given w.place E22 (nat_le (test_nodes s.relvars t) most_nodes) tt (le-leb (test_nodes s.relvars t) most_nodes few))

@@ -14,6 +14,7 @@ use Rattle.relation_typing.specs.Headings.{heading_typed}
 use Rattle.tree_core.specs.declared.declaration.HistoryData.{HistoryData}
 use Rattle.tree_core.specs.Relvars.{State}
 use Rattle.declaration_typing.specs.Histories.{facts_typed}
+use Rattle.declaration_typing.specs.Rules.{rule_scope}
 use Rattle.place_laws.specs.Moved.{moved_word, moved_point, moved_heading, moved_key, moved_statement}
 use Rattle.place_laws.proofs.SameTrees.{statement-same}
 use Rattle.meaning_laws.specs.Likeness.{Alike}
@@ -23,9 +24,11 @@ use Rattle.row_typing_laws.proofs.ElsewhereNames.{point-follows, word-follows}
 use Rattle.typing_laws.specs.Saying.{Said, said_ordinal, said_base, said_view, said_history, said_rule, Says, IsSaidHistory, moved_history, moved_said, said_names_any}
 use Rattle.typing_laws.proofs.ConstraintsElsewhere.{constraints-elsewhere, few-constraints-elsewhere}
 use Rattle.typing_laws.proofs.DeclarationsElsewhere.{few-values-follows, ends-follow, facts-follow}
+use Rattle.typing_laws.proofs.LogsAlike.{SameLogs}
 use Rattle.typing_laws.proofs.TreesElsewhere.{tree-elsewhere, test-elsewhere}
 
-module _ (some : Name → Bool) (f : Place → Place) (s r : State) (more : List OrdinalNames) (alike : Alike some s.relvars r.relvars) (types : r.ordinals ≡ s.ordinals ++ more) where
+module _ (some : Name → Bool) (f : Place → Place) (s r : State) (more : List OrdinalNames) (alike : Alike some s.relvars r.relvars) (types : r.ordinals ≡ s.ordinals ++ more)
+    (logs : SameLogs some s.relvars r.relvars) where
   -- beside the ordinal types there
   beside : (P : List OrdinalNames → Type 0) → P (s.ordinals ++ more) → P r.ordinals
   beside P h = subst P (sym types) h
@@ -52,7 +55,8 @@ module _ (some : Name → Bool) (f : Place → Place) (s r : State) (more : List
   says-elsewhere (syntax.DeclareRelvar at w (syntax.View there rel)) (said_view name t) none says =
       (word-follows f w name says.0, tree-elsewhere f some s r more alike types rel t none says.1)
   says-elsewhere (syntax.DeclareHistory at v h key b p d i t) (said_history made) none says = history-there at v h key b p d i t made says
-  says-elsewhere (syntax.DeclareRule at w test) (said_rule name t) none says = (word-follows f w name says.0, test-elsewhere f some s r more alike types test t none says.1)
+  says-elsewhere (syntax.DeclareRule at w test) (said_rule name t) none says =
+      (word-follows f w name says.0, test-elsewhere f some (rule_scope s) (rule_scope r) more alike types logs test t none says.1)
   says-elsewhere _ _ none says = absurd says
 
 pub said-same : (d : Said) → moved_said (λ p. p) d ≡ d
@@ -62,8 +66,9 @@ said-same (said_view name t) = ap (said_view name) (tree-same t)
 said-same (said_history made) = refl
 said-same (said_rule name t) = ap (said_rule name) (test-same t)
 
-module _ (some : Name → Bool) (s r : State) (more : List OrdinalNames) (alike : Alike some s.relvars r.relvars) (types : r.ordinals ≡ s.ordinals ++ more) where
+module _ (some : Name → Bool) (s r : State) (more : List OrdinalNames) (alike : Alike some s.relvars r.relvars) (types : r.ordinals ≡ s.ordinals ++ more)
+    (logs : SameLogs some s.relvars r.relvars) where
   pub says-stays : (tree : StatementP) (d : Said) → said_names_any some d ≡ false → Says s tree d → Says r tree d
   says-stays tree d none says =
-      let there : Says r (moved_statement (λ p. p) tree) (moved_said (λ p. p) d) = says-elsewhere some (λ p. p) s r more alike types tree d none says in
+      let there : Says r (moved_statement (λ p. p) tree) (moved_said (λ p. p) d) = says-elsewhere some (λ p. p) s r more alike types logs tree d none says in
       subst (Says r tree) (said-same d) (subst (λ (x : StatementP). Says r x (moved_said (λ p. p) d)) (statement-same tree) there)

@@ -16,6 +16,7 @@ use Rattle.meaning_laws.specs.Likeness.{LikeIf, Alike}
 use Rattle.meaning_laws.proofs.ApartLemmas.{none-named, none-test-named}
 use Rattle.meaning_laws.proofs.LikeLemmas.{like-itself}
 use Rattle.typing_laws.specs.Saying.{Said, said_ordinal, said_base, said_view, said_history, said_rule, Says, names_other, references_other, said_names_any, ordinals_said, with_said, entries_said}
+use Rattle.typing_laws.proofs.LogsAlike.{SameLogs, logs-behind}
 use Rattle.typing_laws.proofs.SaysElsewhere.{says-stays}
 
 behind-like : (es more : Entries) (name : Name) → LikeIf (relvar_named es name) (relvar_named (es ++ more) name)
@@ -66,7 +67,8 @@ said-none (said_rule name t) = none-test-named t
 pub says-more : (s r : State) (types : List OrdinalNames) (entries : Entries) → r.ordinals ≡ s.ordinals ++ types → r.relvars ≡ s.relvars ++ entries → (tree : StatementP) (d : Said)
     → Says s tree d → Says r tree d
 says-more s r types entries same relvars tree d says =
-    says-stays (λ name. false) s r types (subst (λ (es : Entries). Alike (λ name. false) s.relvars es) (sym relvars) (alike-behind (λ name. false) s.relvars entries)) same tree d (said-none d) says
+    says-stays (λ name. false) s r types (subst (λ (es : Entries). Alike (λ name. false) s.relvars es) (sym relvars) (alike-behind (λ name. false) s.relvars entries)) same
+    (subst (λ (es : Entries). SameLogs (λ name. false) s.relvars es) (sym relvars) (logs-behind (λ name. false) s.relvars entries)) tree d (said-none d) says
 
 pub says-with : (s : State) (e : Said) (tree : StatementP) (d : Said) → Says s tree d → Says (with_said s e) tree d
 says-with s e tree d says = says-more s (with_said s e) (ordinals_said e) (entries_said e) refl refl tree d says

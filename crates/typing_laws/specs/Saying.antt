@@ -27,12 +27,13 @@ use Rattle.tree_core.specs.Uses.{names_any, test_names_any}
 use Rattle.meaning_core.specs.Declarations.{ordinal_type, base_relvar, view_relvar}
 use Rattle.meaning_laws.specs.Moved.{moved_tree, moved_test}
 use Rattle.since_during.specs.Histories.{since_heading, during_heading, since_constraints, during_constraints, view_of}
-use Rattle.tree_typing.specs.Trees.{tree_typed, test_typed}
+use Rattle.tree_typing.specs.Trees.{tree_typed, test_typed_in}
 use Rattle.declaration_typing.specs.Constraints.{constraints_typed, few_constraints}
 use Rattle.declaration_typing.specs.Histories.{facts_typed, attributes_named}
 use Rattle.declaration_typing.specs.Names.{is_taken}
 use Rattle.declaration_typing.specs.Nodes.{nodes_of, test_nodes}
 use Rattle.declaration_typing.specs.Ordinals.{few_values}
+use Rattle.declaration_typing.specs.Rules.{rule_scope}
 use Rattle.type_check.specs.Checks.{Plain, declare_ordinal, declare_base, declare_view, declare_history, declare_rule}
 
 -- an ordinal type, a base relvar, a view, a history, or a database constraint
@@ -90,7 +91,7 @@ SaysRule s w test (said_ordinal name names) = ⊥
 SaysRule s w test (said_base name heading typed) = ⊥
 SaysRule s w test (said_view name t) = ⊥
 SaysRule s w test (said_history made) = ⊥
-SaysRule s w test (said_rule name t) = (name_typed w ≡ Ok name) × (test_typed s test ≡ Ok t)
+SaysRule s w test (said_rule name t) = (name_typed w ≡ Ok name) × (test_typed_in (rule_scope s) test ≡ Ok t)
 
 abbrev pub SaysVar : State → Word → VarFormP → Said → Type 0
 SaysVar s w (syntax.BaseRelvar there h constraints) d = SaysBase s w h constraints d

@@ -1,6 +1,6 @@
 -- What is written of a database gives it back.
 --     sound      what is known of a database whose dump was made
---     no_dump_no_end, memory_no_end, may_no_end      where there is no dump, the status is none of a script that was read to its end
+--     no_dump_no_end, refused_no_end, memory_no_end, may_no_end      where there is no dump, the status is none of a script that was read to its end
 --     may_give_back      the dump of a run, whatever its source tells
 use Rattle.std.proofs.Common.{◌≡◌, ◌≤◌, ◌⊎◌, inl, inr, ℕ, List, [], length, Option, Some, None, IfSome, refl, sym, ap, ◌∙◌, subst, arith}
 use Rattle.utd_io.specs.Io.{Gains}
@@ -10,7 +10,6 @@ use Rattle.dump_core.specs.declared.refuse.DumpRefuse.{DumpRefuse}
 use Rattle.dump_core.specs.declared.refuse.DumpRefuse.TheVariants.{TooLong, Memory}
 use Rattle.dump_core.specs.Inserts.{HaveRelations}
 use Rattle.dump_core.specs.Texts.{SourceText}
-use Rattle.dump_core.specs.Dumps.{script_of}
 use Rattle.assign_core.specs.Databases.{IsKept}
 use Rattle.utd_session.specs.declared.status.Status.{Status}
 use Rattle.utd_session.specs.declared.status.Status.TheVariants.{WriteFailed, NoMemory, CannotDump}
@@ -21,9 +20,9 @@ use Rattle.utd_session.specs.Machine.{Step}
 use Rattle.utd_session.specs.Texts.{AreTextsOf}
 use Rattle.utd_session.specs.Run.{IsAfter, IsRun}
 use Rattle.utd_session.specs.Ends.{IsAtEnd, HasTextsAtEnd}
-use Rattle.utd_session.specs.Dumped.{EndsDump, IsWritten}
+use Rattle.utd_session.specs.Dumped.{dump_in, EndsDump, IsWritten}
 use Rattle.utd_session.proofs.EndLemmas.{not_at_end}
-use Rattle.utd_session.proofs.DumpLemmas.{whole_at_end, short_at_end}
+use Rattle.utd_session.proofs.DumpLemmas.{dump_given, whole_at_end, short_at_end}
 use Rattle.dump_laws.specs.Back.{GivesBack, IsBack, IsSound}
 use Rattle.dump_laws.proofs.BackLaws.{gives-back}
 
@@ -46,17 +45,21 @@ pub no_dump_no_end : (refuse : DumpRefuse) (result : Status) → (refuse ≡ Too
 no_dump_no_end TooLong result long memory at_end = other_status result CannotDump (long refl) (omega arith) at_end
 no_dump_no_end Memory result long memory at_end = other_status result NoMemory (memory refl) (omega arith) at_end
 
+pub refused_no_end : IsAtEnd (number_of CannotDump) → ⊥
+refused_no_end at_end = not_at_end 7 (omega arith) at_end
+
 -- ---- where there is one
 
 module _ (bytes : List ℕ) (left before now : Option (List ℕ)) (texts : List SourceText) (database : Database) (status result : Status) (at_end : IsAtEnd (number_of result)) (run : IsRun bytes left None None (Some database) (number_of status))
     (are : AreTextsOf bytes texts) (is_sound : IsSound (state_of database)) where
-  written_back : result ≡ status → IsWritten before now (script_of texts (state_of database)) → IsBack before now (Some database)
+  written_back : result ≡ status → IsWritten before now (dump_in texts (state_of database)) → IsBack before now (Some database)
   written_back same written =
       let ended : IsAtEnd (number_of status) = subst (λ (s : Status). IsAtEnd (number_of s)) same at_end in
       let whole = run.whole (whole_at_end (number_of status) ended) in
+      let given = dump_given texts whole.0.state written.0 (ap (dump_in texts) (sym whole.4) ∙ written.1) in
       let back : GivesBack written.0 whole.0.state =
       gives-back bytes whole.0 texts written.0 (short_at_end bytes (Some database) (number_of status) ended whole) whole.1 are
-      (subst IsSound whole.4 is_sound) (ap (script_of texts) (sym whole.4) ∙ written.1) in
+      (subst IsSound whole.4 is_sound) given.0 given.1 in
       (written.0, written.2, subst (GivesBack written.0) (sym whole.4) back)
 
   back : (faults faults_now : ℕ) → EndsDump (Some texts) (state_of database) status faults faults_now before now result → IsBack before now (Some database)

@@ -1,6 +1,7 @@
 // Scripts whose dump is asked for: the answers go nowhere, and the dump of the database that is left is written.
-ghost use Rattle.std.specs.Prelude.{◌≡◌, ◌⊎◌, ◌≤◌, ℕ, List, Some, IfSome};
+ghost use Rattle.std.specs.Prelude.{◌≡◌, ◌⊎◌, ◌≤◌, ℕ, false, List, Some, IfSome};
 ghost use Rattle.utd_io.specs.Io.{Rose, Gains, GainsPrefix};
+ghost use Rattle.meaning_core.specs.Logs as rules;
 ghost use Rattle.utd_gen.specs.Script.{most_tuples};
 ghost use Rattle.utd_words.specs.Words.{IsScript};
 ghost use Rattle.utd_session.specs.Databases.{state_of};
@@ -19,7 +20,7 @@ use std::alloc::Global;
 use std::sync::ledger::Ledger;
 use utd_gen::script_of;
 use utd_io::{PureSink, PureSource, Sink, Source, write_all};
-use utd_session::{Ran, Status, run_script};
+use utd_session::{Ran, Status, has_log, run_script};
 use utd_words::Script;
 
 // Writes the bytes of a dump, and gives the status after that: the one before, unless the write fails.
@@ -45,8 +46,27 @@ fn status_without_dump(refuse: DumpRefuse) -> Status
     }
 }
 
-// Writes the dump of a database after a script that ended with this status, and gives the status after that.
+// Writes the dump of a database in which no log is declared, after a script that ended with this status, and gives the status after that.
 fn written_dump<K: Sink>(
+    alloc: Global,
+    status: Status,
+    texts: &Texts,
+    database: &Database,
+    out: &mut K,
+) -> Status
+    requires { rules.has_log (state_of database.now).relvars ≡ false }
+    ensures ends { EndsDump (Some texts.now) (state_of database.now) status
+        (K.faults out.old) (K.faults out.new) (K.written out.old) (K.written out.new) result }
+    ensures sound { IsAtEnd (number_of result) → IsSound (state_of database.now) }
+{
+    match dump(alloc, texts, database.relvars()) {
+        Ok(script) => status_after_write(script.as_slice(), status, out),
+        Err(refuse) => status_without_dump(refuse),
+    }
+}
+
+// The same of any database: where a log is declared, which has no text, there is no dump.
+fn dump_or_refusal<K: Sink>(
     alloc: Global,
     status: Status,
     texts: &Texts,
@@ -57,9 +77,10 @@ fn written_dump<K: Sink>(
         (K.faults out.old) (K.faults out.new) (K.written out.old) (K.written out.new) result }
     ensures sound { IsAtEnd (number_of result) → IsSound (state_of database.now) }
 {
-    match dump(alloc, texts, database.relvars()) {
-        Ok(script) => status_after_write(script.as_slice(), status, out),
-        Err(refuse) => status_without_dump(refuse),
+    if has_log(database.relvars()) {
+        Status::CannotDump
+    } else {
+        written_dump(alloc, status, texts, database, out)
     }
 }
 
@@ -76,7 +97,7 @@ fn status_after_dump<K: Sink>(
     ensures sound { IfSome texts (λ t. IsAtEnd (number_of result) → IsSound (state_of database.now)) }
 {
     match texts {
-        Some(texts) => written_dump(alloc, status, &texts, database, out),
+        Some(texts) => dump_or_refusal(alloc, status, &texts, database, out),
         None => status,
     }
 }

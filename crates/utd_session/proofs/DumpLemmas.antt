@@ -1,11 +1,13 @@
 -- What a run leaves whose dump is asked for.
-use Rattle.std.proofs.Common.{◌≡◌, ◌⊎◌, inl, inr, ℕ, ◌+◌, ◌<◌, ◌≤◌, cond, List, [], length, take, Option, Some, None, IfSome, refl, sym, ap, ◌∙◌, subst, arith, le_refl, length-append}
+--     dump_logged, dump_logless, dump_given      what is dumped where a log is declared, and where none is
+use Rattle.std.proofs.Common.{◌≡◌, ◌⊎◌, inl, inr, ℕ, ◌+◌, ◌<◌, ◌≤◌, Bool, true, false, cond, List, [], length, take, Option, Some, None, IfSome, refl, sym, ap, ◌∙◌, subst, arith, le_refl, length-append}
 use Rattle.std.proofs.lemmas.List.{drop_all}
 use Rattle.utd_io.specs.Io.{Rose}
 use Rattle.tree_core.specs.Relvars.{State}
 use Rattle.tree_core.specs.declared.relvar.Relvars.{Relvars as Database}
+use Rattle.meaning_core.specs.Logs.{has_log}
 use Rattle.dump_core.specs.Texts.{SourceText}
-use Rattle.dump_core.specs.Dumps.{script_of as dump_of}
+use Rattle.dump_core.specs.Dumps.{script_of}
 use Rattle.utd_session.specs.declared.status.Status.{Status}
 use Rattle.utd_session.specs.declared.status.Status.TheVariants.{WriteFailed, NoMemory, CannotDump}
 use Rattle.utd_session.specs.Status.{number_of}
@@ -15,11 +17,26 @@ use Rattle.utd_session.specs.Machine.{status_of}
 use Rattle.utd_session.specs.Texts.{AreTextsOf}
 use Rattle.utd_session.specs.Run.{EndsBehind, IsReadFor, IsRun, IsWhole, most_at_once}
 use Rattle.utd_session.specs.Ends.{IsAtEnd, HasTextsAtEnd}
-use Rattle.utd_session.specs.Dumped.{Dump, HasDump, IsWritten, IsCut, IsMissing, IsDumped, IsWholeDump, EndsDump}
+use Rattle.utd_session.specs.Dumped.{Dump, dump_in, HasDump, IsWritten, IsCut, IsMissing, IsDumped, IsWholeDump, EndsDump}
 use Rattle.utd_session.proofs.StatusLemmas.{most}
 use Rattle.utd_session.proofs.StatementLemmas.{by_le, not_le, within_prefix}
 use Rattle.utd_session.proofs.RunLemmas.{ends_at_5, by_answer}
 use Rattle.utd_session.proofs.EndLemmas.{not_at_end}
+
+-- ---- whether a log is declared
+
+pub dump_logged : (texts : List SourceText) (state : State) → has_log state.relvars ≡ true → dump_in texts state ≡ None
+dump_logged texts state is = ap (λ b. cond b None (script_of texts state)) is
+
+pub dump_logless : (texts : List SourceText) (state : State) → has_log state.relvars ≡ false → dump_in texts state ≡ script_of texts state
+dump_logless texts state none = ap (λ b. cond b None (script_of texts state)) none
+
+pub dump_given : (texts : List SourceText) (state : State) (text : List ℕ) → dump_in texts state ≡ Some text → (has_log state.relvars ≡ false) × (script_of texts state ≡ Some text)
+dump_given texts state text given = by (has_log state.relvars) refl given
+  where
+    by : (b : Bool) → has_log state.relvars ≡ b → cond b None (script_of texts state) ≡ Some text → (has_log state.relvars ≡ false) × (script_of texts state ≡ Some text)
+    by true e h = absurd (cc)
+    by false e h = (e, h)
 
 -- ---- a script that was read to its end
 
@@ -46,15 +63,15 @@ all_read bytes left short none =
 
 -- what is so of its dump
 has_dump : (bytes : List ℕ) (left : Option (List ℕ)) (texts : List SourceText) (database : Database) (answered : ℕ) (P : Dump → Type 0) → IsAtEnd answered → IsRun bytes left None None (Some database) answered → AreTextsOf bytes texts
-    → P (dump_of texts (state_of database)) → HasDump bytes left (Some database) P
+    → P (dump_in texts (state_of database)) → HasDump bytes left (Some database) P
 has_dump bytes left texts database answered P k run are p =
     let w = run.whole (whole_at_end answered k) in
-    (w.0, texts, run.at_end k, w.1, w.4, are, subst (λ s. P (dump_of texts s)) w.4 p)
+    (w.0, texts, run.at_end k, w.1, w.4, are, subst (λ s. P (dump_in texts s)) w.4 p)
 
 -- ---- each way in which the writing of a dump ends
 
 is_written : (bytes : List ℕ) (left before now : Option (List ℕ)) (texts : List SourceText) (database : Database) (status : Status) → IsAtEnd (number_of status) → IsRun bytes left None None (Some database) (number_of status) → AreTextsOf bytes texts
-    → IsWritten before now (dump_of texts (state_of database)) → IsDumped bytes left before now (Some database) (number_of status)
+    → IsWritten before now (dump_in texts (state_of database)) → IsDumped bytes left before now (Some database) (number_of status)
 is_written bytes left before now texts database status k run are p = record {
   known = (status, refl);
   run = λ a b. run;
@@ -65,7 +82,7 @@ is_written bytes left before now texts database status k run are p = record {
 }
 
 is_cut : (bytes : List ℕ) (left before now : Option (List ℕ)) (texts : List SourceText) (database : Database) (status : Status) → IsAtEnd (number_of status) → IsRun bytes left None None (Some database) (number_of status) → AreTextsOf bytes texts
-    → IsCut before now (dump_of texts (state_of database)) → IsDumped bytes left before now (Some database) 4
+    → IsCut before now (dump_in texts (state_of database)) → IsDumped bytes left before now (Some database) 4
 is_cut bytes left before now texts database status k run are p = record {
   known = (WriteFailed, refl);
   run = λ a b. absurd (a refl);
@@ -76,7 +93,7 @@ is_cut bytes left before now texts database status k run are p = record {
 }
 
 is_missing : (bytes : List ℕ) (left before now : Option (List ℕ)) (texts : List SourceText) (database : Database) (status : Status) → IsAtEnd (number_of status) → IsRun bytes left None None (Some database) (number_of status) → AreTextsOf bytes texts
-    → now ≡ before → IsMissing (dump_of texts (state_of database)) → IsDumped bytes left before now (Some database) 7
+    → now ≡ before → IsMissing (dump_in texts (state_of database)) → IsDumped bytes left before now (Some database) 7
 is_missing bytes left before now texts database status k run are same p = record {
   known = (CannotDump, refl);
   run = λ a b. absurd (b refl);

@@ -9,9 +9,9 @@ use Rattle.utd_program.proofs.dumping.status_after_dump.Goals as goal
 
 pub returns-in-Some-clause-ends : goal.returns-in-Some-clause-ends
 returns-in-Some-clause-ends g c =
-    subst (λ (o : Option (List SourceText)). EndsDump o (state_of c.args.database.now) c.args.status (g.K.Sink.faults c.args.out.now) (g.K.Sink.faults c.written_dump.new.out)
-    (g.K.Sink.written c.args.out.now) (g.K.Sink.written c.written_dump.new.out) c.written_dump.result)
-    (sym c.in-Some.is) c.written_dump.ensures.ends
+    subst (λ (o : Option (List SourceText)). EndsDump o (state_of c.args.database.now) c.args.status (g.K.Sink.faults c.args.out.now) (g.K.Sink.faults c.dump_or_refusal.new.out)
+    (g.K.Sink.written c.args.out.now) (g.K.Sink.written c.dump_or_refusal.new.out) c.dump_or_refusal.result)
+    (sym c.in-Some.is) c.dump_or_refusal.ensures.ends
 
 pub returns-in-None-clause-ends : goal.returns-in-None-clause-ends
 returns-in-None-clause-ends g c =
@@ -21,7 +21,7 @@ returns-in-None-clause-ends g c =
 
 pub returns-in-Some-clause-sound : goal.returns-in-Some-clause-sound
 returns-in-Some-clause-sound g c =
-    subst (λ (o : Option (List SourceText)). IfSome o (λ t. IsAtEnd (number_of c.written_dump.result) → IsSound (state_of c.args.database.now))) (sym c.in-Some.is) c.written_dump.ensures.sound
+    subst (λ (o : Option (List SourceText)). IfSome o (λ t. IsAtEnd (number_of c.dump_or_refusal.result) → IsSound (state_of c.args.database.now))) (sym c.in-Some.is) c.dump_or_refusal.ensures.sound
 
 pub returns-in-None-clause-sound : goal.returns-in-None-clause-sound
 returns-in-None-clause-sound g c =

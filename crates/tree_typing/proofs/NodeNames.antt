@@ -1,7 +1,8 @@
 -- A typed node names what its operands name.
 --     then-any, then-known, given-of      what holds of all that is given, and of what was given
 --     infix-names, projection-names, ..      of each rule
-use Rattle.std.proofs.Common.{◌≡◌, ℕ, Bool, List, Ok, Err, refl, subst}
+--     literal-names      a literal names nothing
+use Rattle.std.proofs.Common.{◌≡◌, ℕ, Bool, false, List, [], ◌∷◌, Ok, Err, refl, subst}
 use Rattle.std.specs.Prelude.{◌||◌, IfOk}
 use Rattle.base_core.specs.Outcomes.{then_give}
 use Rattle.point_core.specs.declared.fault.Place.{Place}
@@ -10,7 +11,8 @@ use Rattle.utd_syntax.specs.declared.words.EmptinessWord.{EmptinessWord}
 use Rattle.utd_syntax.specs.declared.words.EmptinessWord.TheVariants.{IsEmpty, IsNotEmpty}
 use Rattle.utd_syntax.specs.declared.words.PackWord.{PackWord}
 use Rattle.utd_syntax.specs.declared.words.PackWord.TheVariants.{Pack, Unpack}
-use Rattle.utd_syntax.specs.Plain.{NameListP, ProjectionP, RenamingsP, ScalarP, SetsP, NamesP, AggregatesP}
+use Rattle.utd_syntax.specs.Plain as syntax
+use Rattle.utd_syntax.specs.Plain.{NameListP, ProjectionP, RenamingsP, ScalarP, SetsP, NamesP, AggregatesP, LiteralP}
 use Rattle.value_core.specs.declared.list.OrdinalNames.{OrdinalNames}
 use Rattle.value_core.specs.Values.{Name, Heading}
 use Rattle.tree_core.specs.declared.test.RelateWord.{RelateWord}
@@ -20,7 +22,8 @@ use Rattle.tree_core.specs.Uses.{names_any, test_names_any}
 use Rattle.point_core.specs.declared.fault.Code.TheVariants.{E13}
 use Rattle.relation_core.specs.Parts.{attributes_at}
 use Rattle.meaning_core.specs.Meanings.{positions_of}
-use Rattle.relation_typing.specs.Headings.{same_heading}
+use Rattle.relation_typing.specs.Headings.{heading_typed, same_heading}
+use Rattle.relation_typing.specs.Literals.{tuple_typed, tuples_typed, literal_typed}
 use Rattle.node_typing.specs.Infixes.{infix_heading}
 use Rattle.node_typing.specs.Lists.{words_of, list_checked}
 use Rattle.node_typing.specs.Positions.{check}
@@ -122,3 +125,9 @@ module _ (some : Name → Bool) where
   pub emptiness-names : (p : Place) (word : EmptinessWord) (t : Tree) → test_names_any some (emptiness_test p word t) ≡ names_any some t
   emptiness-names p IsEmpty t = refl
   emptiness-names p IsNotEmpty t = refl
+
+  pub literal-names : (types : List OrdinalNames) (l : LiteralP) → IfOk (literal_typed types l) (NamesAs false)
+  literal-names types (syntax.Headed at heading tuples) =
+      then-any (NamesAs false) (heading_typed types heading) _ (λ made. then-any (NamesAs false) (tuples_typed types made [] tuples) _ (λ _. refl))
+  literal-names types (syntax.Tuples at first more) =
+      then-any (NamesAs false) (tuple_typed types first) _ (λ made. then-any (NamesAs false) (tuples_typed types made.1 (made.0 ∷ []) more) _ (λ _. refl))
