@@ -38,6 +38,7 @@ use Rattle.meaning_core.proofs.AcceptedLemmas.{made-turned}
 use Rattle.meaning_core.proofs.LogLemmas.{truth-turned, turned-none}
 use Rattle.meaning_core.proofs.RowlessLemmas.{bare, bare_all}
 use Rattle.u_constraints.specs.Constraints.{names_relvar, rows_or_none}
+use Rattle.relation_core.specs.Hashes.{HashList}
 use Rattle.relvar_logs.specs.Changes.{Changes, IsChange, AreChanges, changed_relvar, changed}
 use Rattle.relvar_logs.specs.Room.{are_each_few, left_of, log_count, rows_of_logs}
 use Rattle.relvar_logs.specs.Turning.{IsNext, AreNext, IsFull}
@@ -164,13 +165,16 @@ given-logs : (o : Option Name) (v : Option Relation) (es : Entries) → has_log 
 given-logs o v [] = refl
 given-logs o v (e ∷ es) = λ i. given-log o v e i || given-logs o v es i
 
+-- where the source of an assignment gives a value
+then-logs : (v : OrFault Relation) (next : Relation → OrFault Entries) (last new : Entries) → ((value : Relation) → next value ≡ Ok last → has_log last ≡ has_log new) → then_give v next ≡ Ok last → has_log last ≡ has_log new
+then-logs (Ok value) next last new more e = more value e
+then-logs (Err fault) next last new more e = absurd (cc)
+
 evaluated-logs : (old new last : Entries) (list : List PlainAssignment) → evaluated old new list ≡ Ok last → has_log last ≡ has_log new
 evaluated-logs old new last [] e = let same : new ≡ last = cc in sym (ap has_log same)
-evaluated-logs old new last (a ∷ list) e = by (source_value old new a) e
-  where
-    by : (v : OrFault Relation) → then_give v (λ value. evaluated old (with_target new a.target value) list) ≡ Ok last → has_log last ≡ has_log new
-    by (Ok value) f = evaluated-logs old (with_target new a.target value) last list f ∙ given-logs (Some a.target) (Some value) new
-    by (Err fault) f = absurd (cc)
+evaluated-logs old new last (a ∷ list) e =
+    then-logs (source_value old new a) (λ value. evaluated old (with_target new a.target value) list) last new
+    (λ value f. evaluated-logs old (with_target new a.target value) last list f ∙ given-logs (Some a.target) (Some value) new) e
 
 no-rows : (es : Entries) → has_log es ≡ false → (rows_of_logs es ≡ 0) × (are_each_few es ≡ true)
 no-rows [] none = (refl, refl)
@@ -213,16 +217,16 @@ assigned_without_logs s list none = by (evaluated s.relvars s.relvars list) refl
 
 -- ---- with logs
 
+unbroken : (mid new : Entries) (o : Option Refuse) → unless_broken mid o ≡ Ok new → mid ≡ new
+unbroken mid new None e = cc
+unbroken mid new (Some refuse) e = absurd (cc)
+
 -- assignments that are accepted
 pub assigned_after : (s : State) (list : List PlainAssignment) (new : Entries) → assigned_in s list ≡ Ok new → after_assignments s.relvars list ≡ Ok new
 assigned_after s list new e = by (evaluated s.relvars s.relvars list) e
   where
     rules-kept : (r : Result Entries Refuse) → unless_rule_broken s.rules r ≡ Ok new → r ≡ Ok new
-    rules-kept (Ok mid) f = unbroken mid (first_rule_broken mid s.rules) f
-      where
-        unbroken : (mid : Entries) (o : Option Refuse) → unless_broken mid o ≡ Ok new → Ok mid ≡ Ok new
-        unbroken mid None g = g
-        unbroken mid (Some refuse) g = absurd (cc)
+    rules-kept (Ok mid) f = ap Ok (unbroken mid new (first_rule_broken mid s.rules) f)
     rules-kept (Err refuse) f = absurd (cc)
 
     by : (v : OrFault Entries) → unless_full v (unless_rule_broken s.rules (of_values v)) ≡ Ok new → of_values v ≡ Ok new

@@ -15,6 +15,8 @@ use Rattle.value_core.specs.Values.{Name}
 use Rattle.tree_core.specs.Items.{PlainAssignment}
 use Rattle.tree_core.specs.Relvars.{Entries, Rules, State}
 use Rattle.tree_core.specs.Trees.{Test}
+use Rattle.tree_core.specs.Uses.{test_names_any}
+use Rattle.meaning_core.specs.Logs.{over_log}
 use Rattle.meaning_core.specs.Declarations.{with_rule, without_rule}
 use Rattle.meaning_core.specs.Truths.{holds_in}
 use Rattle.meaning_core.specs.WellMade.{all_names, IsTypedTestFor, IsWellMade}
@@ -218,6 +220,7 @@ without_rule_kept s name kept = record {
         let few = kept.well_made.few_rules in
         omega (arith, less, few);
     rules = All-filter (λ r. not (bytes_eq r.0 name)) (λ r. IsTypedTestFor s r.1) s.rules kept.well_made.rules;
+    apart = All-filter (λ r. not (bytes_eq r.0 name)) (λ r. test_names_any (over_log s.relvars) r.1 ≡ false) s.rules kept.well_made.apart;
   };
   holds = kept.holds;
   few = kept.few;

@@ -12,7 +12,7 @@ use Rattle.meaning_core.specs.WellMade.{IsBase, FitsHeadings}
 use Rattle.u_constraints.specs.Constraints.{broken, names_relvar}
 use Rattle.assign_core.specs.Breaches.{rows_named}
 use Rattle.assign_core.specs.declared.checking.After.{After}
-use Rattle.relvar_logs.specs.Changes.{Changes, changed}
+use Rattle.relvar_logs.specs.Changes.{Changes, changed, change_named}
 
 abbrev pub after : After → Entries
 after a = changed a.changes.now (read_relvars a.relvars.now).relvars
