@@ -1,5 +1,5 @@
 -- Logs that stand ready for the next statement.
---     of_base_there      a log is that of a base relvar
+--     base-before, of_base_there      a log is that of a base relvar, which more entries leave
 --     change_found, change_absent      the rows of a relvar with its new value, and without one
 --     ready_log, idle_log, too_long      a log with the next statement, one whose relvar stays, and one that would have too many rows
 --     first_ready      a log that begins
@@ -39,7 +39,7 @@ use Rattle.relvar_logs.proofs.EntryLemmas.{so_put}
 
 -- ---- logs of base relvars
 
-base-before : (before more : Entries) (name : Name) → IsBase (relvar_named before name) → relvar_named (before ++ more) name ≡ relvar_named before name
+pub base-before : (before more : Entries) (name : Name) → IsBase (relvar_named before name) → relvar_named (before ++ more) name ≡ relvar_named before name
 base-before before more name h = by (relvar_named before name) refl h
   where
     by : (o : Option PlainRelvar) → relvar_named before name ≡ o → IsBase o → relvar_named (before ++ more) name ≡ relvar_named before name
@@ -110,7 +110,7 @@ change_first (e ∷ es) (c ∷ cs) name zero r d l first = ap (λ (b : Bool). co
 change_first (e ∷ es) (c ∷ cs) name (suc i) r d l first =
     ap (λ (b : Bool). cond b c (change_named cs es name)) first.0 ∙ change_first es cs name i r d (omega (arith, l)) first.1
 
-turned-name : (a b : Name) → bytes_eq a b ≡ false → bytes_eq b a ≡ false
+pub turned-name : (a b : Name) → bytes_eq a b ≡ false → bytes_eq b a ≡ false
 turned-name a b e = false_from_ne_true (bytes_eq b a) (λ s. true≢false (sym (own_name a) ∙ (ap (λ (n : Name). bytes_eq a n) (sym (same_name b a s)) ∙ e)))
 
 pub change_none : (es : List (Name × Relvar)) (cs : Changes) (name : Name)
