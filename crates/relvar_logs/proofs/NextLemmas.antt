@@ -111,7 +111,7 @@ change_first (e ∷ es) (c ∷ cs) name zero r d l first = ap (λ (b : Bool). co
 change_first (e ∷ es) (c ∷ cs) name (suc i) r d l first =
     ap (λ (b : Bool). cond b c (change_named cs es name)) first.0 ∙ change_first es cs name i r d (omega (arith, l)) first.1
 
-turned-name : (a b : Name) → bytes_eq a b ≡ false → bytes_eq b a ≡ false
+pub turned-name : (a b : Name) → bytes_eq a b ≡ false → bytes_eq b a ≡ false
 turned-name a b e = false_from_ne_true (bytes_eq b a) (λ s. true≢false (sym (own_name a) ∙ (ap (λ (n : Name). bytes_eq a n) (sym (same_name b a s)) ∙ e)))
 
 pub change_none : (es : List (Name × Relvar)) (cs : Changes) (name : Name)

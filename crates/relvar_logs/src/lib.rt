@@ -8,5 +8,5 @@ mod turning;
 
 pub use counting::{has_log, room_beside};
 pub use next::next_logs;
-pub use opening::first_log;
-pub use turning::{count, turn_first};
+pub use opening::{first_log, open_log};
+pub use turning::count;

@@ -25,7 +25,7 @@ pub fn count(relvars: &mut Relvars, next: &mut [Option<Log>])
 }
 
 /// Brings the logs among the first so many entries to the statement of this number, behind which these are all relvars.
-pub fn turn_first(relvars: &mut Relvars, next: &mut [Option<Log>], count: usize, number: i64)
+pub(crate) fn turn_first(relvars: &mut Relvars, next: &mut [Option<Log>], count: usize, number: i64)
     ghost all: { Entries }
     requires room { number <ℤ greatest_whole }
     requires count { count ≤ length relvars.old.list.entries }
