@@ -26,7 +26,7 @@ use Rattle.meaning_core.specs.Names.{given}
 use Rattle.meaning_core.proofs.LimitLemmas.{limited_few}
 use Rattle.assign_core.specs.Assignments.{with_target, of_values, IsRefusedFor}
 use Rattle.assign_core.specs.Breaches.{rows_of_all}
-use Rattle.assign_core.specs.Changes.{Changes, AreChanges, changed}
+use Rattle.relvar_logs.specs.Changes.{Changes, AreChanges, changed}
 use Rattle.assign_core.specs.Turnovers.{renewed_at, IsCounted, IsTurnoverOf}
 use Rattle.assign_core.specs.Parts.{names_in}
 use Rattle.assign_core.specs.Targets.{IsTarget, entries_after, entries_before, entries_with}

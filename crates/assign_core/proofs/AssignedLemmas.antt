@@ -19,7 +19,7 @@ use Rattle.tree_core.specs.Items.{PlainAssignment, read_assignment}
 use Rattle.tree_core.specs.Relvars.{State, PlainRelvar, base, view, Entries, log}
 use Rattle.assign_core.specs.Assignments.{evaluated, unless_broken, kept_or_refused, of_values, after_assignments, IsRefusedFor}
 use Rattle.assign_core.specs.Breaches.{rows_of_all, first_broken, first_rule_broken}
-use Rattle.assign_core.specs.Changes.{Changes, AreChanges, changed}
+use Rattle.relvar_logs.specs.Changes.{Changes, AreChanges, changed}
 use Rattle.assign_core.specs.Checks.{IsChecked, AreChecked, AllChecked}
 use Rattle.assign_core.specs.Databases.{IsKept}
 use Rattle.assign_core.proofs.ChangeLemmas.{bare_changed, none_changed}

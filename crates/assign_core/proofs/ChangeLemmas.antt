@@ -10,7 +10,7 @@ use Rattle.meaning_core.specs.Names.{given, with_value}
 use Rattle.meaning_core.specs.Names.{IsFirstAt}
 use Rattle.meaning_core.specs.WellMade.{IsBase}
 use Rattle.meaning_core.proofs.MadeLemmas.{same_name}
-use Rattle.assign_core.specs.Changes.{Changes, IsChange, AreChanges, changed_relvar, changed}
+use Rattle.relvar_logs.specs.Changes.{Changes, IsChange, AreChanges, changed_relvar, changed}
 use Rattle.assign_core.specs.Parts.{names_in}
 use Rattle.assign_core.proofs.NameLemmas.{turned}
 use Rattle.meaning_core.proofs.RowlessLemmas.{bare_all, bare, bare-with_value}
@@ -20,10 +20,6 @@ same_length [] [] h = refl
 same_length [] (e ∷ es) h = absurd h
 same_length (c ∷ cs) [] h = absurd h
 same_length (c ∷ cs) (e ∷ es) h = ap suc (same_length cs es h.1)
-
-pub entries_length : (es : List (Name × Relvar)) → length (map read_entry es) ≡ length es
-entries_length [] = refl
-entries_length (e ∷ es) = ap suc (entries_length es)
 
 pub none_are : (es : List (Name × Relvar)) → AreChanges (replicate (length es) None) (map read_entry es)
 none_are [] = tt

@@ -11,7 +11,7 @@ use Rattle.tree_core.specs.Relvars.{PlainRelvar, Entries}
 use Rattle.u_constraints.specs.Constraints.{broken}
 use Rattle.assign_core.specs.Assignments.{source_value, with_target, evaluated}
 use Rattle.assign_core.specs.Breaches.{rows_named, first_in}
-use Rattle.assign_core.specs.Changes.{Changes, changed}
+use Rattle.relvar_logs.specs.Changes.{Changes, changed}
 use Rattle.assign_core.specs.Costs.{source_cost, behind, sources_cost, where_kept, cost_over, looked_at, looked_at_in, looked_at_all, constraints_cost, constraints_cost_of, assignments_cost}
 use Rattle.assign_core.proofs.ChangeLemmas.{none_changed}
 

@@ -7,7 +7,7 @@ use Rattle.value_core.specs.Values.{Name, Relation}
 use Rattle.tree_core.specs.declared.relvar.Relvar.{Relvar}
 use Rattle.tree_core.specs.Relvars.{PlainRelvar, Entries, read_entry, read_relvar}
 use Rattle.assign_core.specs.Breaches.{count_of, rows_of_all}
-use Rattle.assign_core.specs.Changes.{Changes, changed, changed_relvar}
+use Rattle.relvar_logs.specs.Changes.{Changes, changed, changed_relvar}
 
 pub rows_more : (es : Entries) (i : ℕ) (d : Name × PlainRelvar) → i < length es → rows_of_all (take (i + 1) es) ≡ rows_of_all (take i es) + count_of (slice_index_or es i d)
 rows_more es i d l = let one : i + 1 ≡ suc i = omega arith in ap (λ (n : ℕ). rows_of_all (take n es)) one ∙ by es i l

@@ -45,7 +45,7 @@ with_added s (ordinal_type name values) = no_more s.relvars
 with_added s (base_relvar name heading constraints) = refl
 with_added s (view_relvar name t history) = refl
 
-declared_added : (s : State) (ds : List PlainDeclaration) → (declared s ds).relvars ≡ s.relvars ++ all_added ds
+pub declared_added : (s : State) (ds : List PlainDeclaration) → (declared s ds).relvars ≡ s.relvars ++ all_added ds
 declared_added s [] = no_more s.relvars
 declared_added s (d ∷ ds) =
     declared_added (with_declaration s d) ds ∙ (ap (λ (z : Entries). z ++ all_added ds) (with_added s d) ∙ in_turn s.relvars (added d) (all_added ds))
@@ -135,7 +135,7 @@ same_in all other name (base value constraints) same = same_of all other name va
 same_in all other name (view t history) same = refl
 same_in all other name (log of side last w) same = refl
 
-same_among : (all other es : Entries) → ((c : Constraint) → rows_named all c ≡ rows_named other c) → first_among all es ≡ first_among other es
+pub same_among : (all other es : Entries) → ((c : Constraint) → rows_named all c ≡ rows_named other c) → first_among all es ≡ first_among other es
 same_among all other [] same = refl
 same_among all other (r ∷ es) same =
     ap (λ (z : Option Refuse). or_later z (first_among all es)) (same_in all other r.0 r.1 same) ∙ ap (or_later (first_in other r.0 r.1)) (same_among all other es same)
@@ -169,13 +169,13 @@ none_in_empty all [] h = refl
 none_in_empty all (r ∷ rest) h =
     none_of_two (first_in all r.0 r.1) (first_among all rest) (none_in all r.0 r.1 h.0) (none_in_empty all rest h.1)
 
-kept_more : (es more : Entries) → AreEmpty more → first_broken es ≡ None → first_broken (es ++ more) ≡ None
+pub kept_more : (es more : Entries) → AreEmpty more → first_broken es ≡ None → first_broken (es ++ more) ≡ None
 kept_more es more empty holds =
     none_among (es ++ more) es more (same_among (es ++ more) es es (same_named more empty es) ∙ holds) (none_in_empty (es ++ more) more empty)
 
 -- ---- rows
 
-no_rows_of : (more : Entries) → AreEmpty more → rows_of_all more ≡ 0
+pub no_rows_of : (more : Entries) → AreEmpty more → rows_of_all more ≡ 0
 no_rows_of [] h = refl
 no_rows_of (r ∷ rest) h = let here : count_of r ≡ 0 = ap length h.0 in let there = no_rows_of rest h.1 in omega (arith, here, there)
 
@@ -195,7 +195,7 @@ same_rules s (d ∷ ds) = same_rules (with_declaration s d) ds ∙ one s d
     one t (view_relvar name v history) = refl
 
 -- what is declared behind is named by no database constraint
-rules_stay : (sizes : List ℕ) (es more : Entries) (rs : Rules) → All (λ r. IsTypedTest sizes (headings_of es) r.1) rs → All (λ r. holds_in es r.1 ≡ true) rs
+pub rules_stay : (sizes : List ℕ) (es more : Entries) (rs : Rules) → All (λ r. IsTypedTest sizes (headings_of es) r.1) rs → All (λ r. holds_in es r.1 ≡ true) rs
     → All (λ r. holds_in (es ++ more) r.1 ≡ true) rs
 rules_stay sizes es more [] typed held = All-nil (λ r. holds_in (es ++ more) r.1 ≡ true)
 rules_stay sizes es more (r ∷ rs) typed held =

@@ -21,7 +21,7 @@ use Rattle.meaning_core.specs.Names.{IsFirstAt}
 use Rattle.meaning_core.proofs.MadeLemmas.{own_name}
 use Rattle.u_constraints.specs.Growth.{exchanged}
 use Rattle.change_rows.specs.declared.exchange.Exchange.{Exchange}
-use Rattle.assign_core.specs.Changes.{Changes, IsChange, AreChanges, changed, changed_relvar}
+use Rattle.relvar_logs.specs.Changes.{Changes, IsChange, AreChanges, changed, changed_relvar}
 use Rattle.assign_core.specs.Breaches.{value_of}
 use Rattle.assign_core.specs.Differences.{AreNone, AreFound, HasBoth, IsOnly, IsOnlyAt, IsPlaced}
 use Rattle.assign_core.specs.Parts.{names_in}

@@ -39,7 +39,7 @@ use Rattle.algebra_core.specs.Costs.{Prices, tree_cost, prices_in, cost_in, paid
 use Rattle.algebra_core.proofs.CostLemmas.{known_each}
 use Rattle.assign_core.specs.Assignments.{seen_by, source_value, with_target, evaluated, of_values, after_assignments, IsRefusedFor}
 use Rattle.assign_core.specs.Breaches.{value_if}
-use Rattle.assign_core.specs.Changes.{Changes, changed}
+use Rattle.relvar_logs.specs.Changes.{Changes, changed}
 use Rattle.assign_core.specs.Costs.{source_cost, sources_cost}
 use Rattle.assign_core.specs.Insertions.{Nodes, insertion_of, united_in, united_cost}
 use Rattle.assign_core.proofs.ChangeLemmas.{none_changed}

@@ -24,7 +24,7 @@ use Rattle.meaning_core.specs.Truths.{holds_in, is_held}
 use Rattle.meaning_core.proofs.ElsewhereLemmas.{meaning-agrees, truth-agrees}
 use Rattle.meaning_core.proofs.MadeLemmas.{same_name, own_name}
 use Rattle.assign_core.specs.Breaches.{first_rule_broken}
-use Rattle.assign_core.specs.Changes.{turned_at}
+use Rattle.relvar_logs.specs.Changes.{turned_at}
 use Rattle.assign_core.specs.Leanings.{is_ready_at, is_view_of, is_affected, with_affected, affected_from, affected, leaning, DoOthersHold}
 use Rattle.assign_core.specs.Exchanges.{exchanged_by, place_of, turned, with_ready}
 use Rattle.assign_core.specs.declared.exchange.Change.{Change}

@@ -18,6 +18,7 @@ pub mod InTurnLemmas
 pub mod ItemLemmas
 pub mod LeaningLemmas
 pub mod LeavingLemmas
+pub mod LogLemmas
 pub mod MergingLemmas
 pub mod NameLemmas
 pub mod NewRowLemmas
@@ -37,5 +38,6 @@ pub mod RemovedLemmas
 pub mod RuleLemmas
 pub mod SourceLemmas
 pub mod StateLemmas
+pub mod StepLemmas
 pub mod ToldLemmas
 pub mod TouchLemmas

@@ -14,7 +14,7 @@ use Rattle.meaning_core.specs.WellMade.{IsWellMade}
 use Rattle.meaning_core.proofs.RowlessLemmas.{bare, bare_all, bare-keeps, bare-with_value}
 use Rattle.assign_core.specs.Assignments.{after_assignments}
 use Rattle.assign_core.specs.Breaches.{first_rule_broken}
-use Rattle.assign_core.specs.Changes.{turned_at, AreChanges, Changes, IsSoAt, changed}
+use Rattle.relvar_logs.specs.Changes.{AreChanges, Changes, changed, turned_at, IsSoAt}
 use Rattle.assign_core.specs.Databases.{IsKept, IsSettled}
 use Rattle.assign_core.specs.Exchanges.{exchanged_by, place_of, turned, value_here, values_from, with_ready, AreElsewhere, ArePrepared, IsReady, MayTurn}
 use Rattle.assign_core.specs.declared.exchange.Change.{Change}

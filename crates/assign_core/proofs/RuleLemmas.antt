@@ -15,6 +15,8 @@ use Rattle.value_core.specs.Values.{Name}
 use Rattle.tree_core.specs.Items.{PlainAssignment}
 use Rattle.tree_core.specs.Relvars.{Entries, Rules, State}
 use Rattle.tree_core.specs.Trees.{Test}
+use Rattle.tree_core.specs.Uses.{test_names_any}
+use Rattle.meaning_core.specs.Logs.{over_log}
 use Rattle.meaning_core.specs.Declarations.{with_rule, without_rule}
 use Rattle.meaning_core.specs.Truths.{holds_in}
 use Rattle.meaning_core.specs.WellMade.{all_names, IsTypedTestFor, IsWellMade}
@@ -108,20 +110,24 @@ broken_told (At fault) new o told = absurd told
 broken_told (Broken code relvar number) new o told = ap (unless_broken new) told
 broken_told Memory new o told = tt
 
-pub refused_before : (refuse : Refuse) (s : State) (list : List PlainAssignment) → IsRefusedFor refuse (after_assignments s.relvars list) → IsRefusedFor refuse (assigned_in s list)
-refused_before (Plain code) s list e = ap (unless_rule_broken s.rules) e
-refused_before (At fault) s list e = ap (unless_rule_broken s.rules) e
-refused_before (Broken code relvar number) s list e = ap (unless_rule_broken s.rules) e
-refused_before Memory s list e = tt
+-- what is meant turns on no log
+abbrev pub IsPlainFor : State → List PlainAssignment → Type 0
+IsPlainFor s list = assigned_in s list ≡ unless_rule_broken s.rules (after_assignments s.relvars list)
 
-pub settled_assigned : (result : Result (Unit {0}) Refuse) (s now : State) (new : Entries) (list : List PlainAssignment) → after_assignments s.relvars list ≡ Ok new
+pub refused_before : (refuse : Refuse) (s : State) (list : List PlainAssignment) → IsPlainFor s list → IsRefusedFor refuse (after_assignments s.relvars list) → IsRefusedFor refuse (assigned_in s list)
+refused_before (Plain code) s list plain e = plain ∙ ap (unless_rule_broken s.rules) e
+refused_before (At fault) s list plain e = plain ∙ ap (unless_rule_broken s.rules) e
+refused_before (Broken code relvar number) s list plain e = plain ∙ ap (unless_rule_broken s.rules) e
+refused_before Memory s list plain e = tt
+
+pub settled_assigned : (result : Result (Unit {0}) Refuse) (s now : State) (new : Entries) (list : List PlainAssignment) → IsPlainFor s list → after_assignments s.relvars list ≡ Ok new
     → IsSettled result s now new → IsAssigned result s now list
-settled_assigned (Ok done) s now new list e told = (
-  ap (unless_rule_broken s.rules) e ∙ (ap (unless_broken new) told.0 ∙ ap (λ (t : State). Ok t.relvars) (sym told.1)),
+settled_assigned (Ok done) s now new list plain e told = (
+  plain ∙ (ap (unless_rule_broken s.rules) e ∙ (ap (unless_broken new) told.0 ∙ ap (λ (t : State). Ok t.relvars) (sym told.1))),
   told.1 ∙ ap (λ (t : State). record s { relvars = t.relvars }) (sym told.1),
 )
-settled_assigned (Err refuse) s now new list e told = (
-  subst (λ (r : Result Entries Refuse). IsRefusedFor refuse r) (sym (ap (unless_rule_broken s.rules) e)) (broken_told refuse new (first_rule_broken new s.rules) told.0),
+settled_assigned (Err refuse) s now new list plain e told = (
+  subst (λ (r : Result Entries Refuse). IsRefusedFor refuse r) (sym (plain ∙ ap (unless_rule_broken s.rules) e)) (broken_told refuse new (first_rule_broken new s.rules) told.0),
   told.1,
 )
 
@@ -214,6 +220,7 @@ without_rule_kept s name kept = record {
         let few = kept.well_made.few_rules in
         omega (arith, less, few);
     rules = All-filter (λ r. not (bytes_eq r.0 name)) (λ r. IsTypedTestFor s r.1) s.rules kept.well_made.rules;
+    apart = All-filter (λ r. not (bytes_eq r.0 name)) (λ r. test_names_any (over_log s.relvars) r.1 ≡ false) s.rules kept.well_made.apart;
   };
   holds = kept.holds;
   few = kept.few;

@@ -15,8 +15,8 @@ use Rattle.meaning_core.specs.Names.{IsFirstAt}
 use Rattle.u_constraints.specs.Constraints.{broken, names_relvar, rows_or_none}
 use Rattle.assign_core.specs.declared.checking.After.{After}
 use Rattle.assign_core.specs.Breaches.{value_if, value_at, rows_named, breach, first_of, first_in, first_among}
-use Rattle.assign_core.specs.Changes.{Changes, changed, changed_relvar, newest}
-use Rattle.assign_core.specs.Checks.{after, before, change_named, change_at, can_break, HeldBefore}
+use Rattle.relvar_logs.specs.Changes.{Changes, changed, changed_relvar, newest, change_named}
+use Rattle.assign_core.specs.Checks.{after, before, change_at, can_break, HeldBefore}
 use Rattle.assign_core.proofs.DeclaredLemmas.{neither}
 use Rattle.assign_core.proofs.NameLemmas.{turned}
 

@@ -21,6 +21,7 @@ use Rattle.meaning_core.specs.Meanings.{meaning_in}
 use Rattle.meaning_core.specs.Names.{given}
 use Rattle.meaning_core.specs.Truths.{holds_in}
 use Rattle.assign_core.specs.Breaches.{value_if, rows_of_all, first_broken, first_rule_broken}
+use Rattle.assign_core.specs.Logs.{unless_full}
 
 -- ---- sources
 
@@ -64,9 +65,10 @@ abbrev pub unless_rule_broken : Rules → Result Entries Refuse → Result Entri
 unless_rule_broken rules (Ok new) = unless_broken new (first_rule_broken new rules)
 unless_rule_broken rules (Err refuse) = Err refuse
 
--- the relvars after assignments in a state, whose database constraints are asked after the constraints of its relvars
+-- the relvars after assignments in a state, unless its logs would have too many rows; its database constraints are asked after the
+-- constraints of its relvars
 abbrev pub assigned_in : State → List PlainAssignment → Result Entries Refuse
-assigned_in s list = unless_rule_broken s.rules (after_assignments s.relvars list)
+assigned_in s list = unless_full (evaluated s.relvars s.relvars list) (unless_rule_broken s.rules (after_assignments s.relvars list))
 
 -- ---- database constraints
 

@@ -12,7 +12,7 @@ use Rattle.meaning_core.specs.WellMade.{IsBase, FitsHeadings}
 use Rattle.u_constraints.specs.Constraints.{broken, names_relvar}
 use Rattle.assign_core.specs.Breaches.{rows_named}
 use Rattle.assign_core.specs.declared.checking.After.{After}
-use Rattle.assign_core.specs.Changes.{Changes, changed}
+use Rattle.relvar_logs.specs.Changes.{Changes, changed, change_named}
 
 abbrev pub after : After → Entries
 after a = changed a.changes.now (read_relvars a.relvars.now).relvars
@@ -42,12 +42,6 @@ AllChecked entries (r ∷ rest) = AreChecked entries r.1 × AllChecked entries r
 
 abbrev pub before : After → Entries
 before a = (read_relvars a.relvars.now).relvars
-
--- the value that stands ready for the relvar of a name
-abbrev pub change_named : Changes → Entries → Name → Option Relation
-change_named [] entries name = None
-change_named (c ∷ cs) [] name = None
-change_named (c ∷ cs) (r ∷ rest) name = if bytes_eq r.0 name then c else change_named cs rest name
 
 abbrev pub change_at : Changes → Entries → Option Name → Option Relation
 change_at cs entries None = None

@@ -10,7 +10,7 @@ use Rattle.change_rows.specs.declared.exchange.Exchange.{Exchange}
 use Rattle.assign_core.specs.declared.checking.After.{After}
 use Rattle.assign_core.specs.declared.differences.Only.{Only}
 use Rattle.assign_core.specs.Breaches.{value_of}
-use Rattle.assign_core.specs.Changes.{Changes}
+use Rattle.relvar_logs.specs.Changes.{Changes}
 use Rattle.assign_core.specs.Checks.{before}
 use Rattle.assign_core.specs.Turnovers.{renewed}
 

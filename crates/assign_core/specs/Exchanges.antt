@@ -17,7 +17,8 @@ use Rattle.assign_core.specs.declared.exchange.Change.{Change}
 use Rattle.assign_core.specs.declared.exchange.Change.TheVariants.{Value, Rows}
 use Rattle.assign_core.specs.declared.exchange.Ready.{Ready}
 use Rattle.assign_core.specs.declared.room.Held.{Held}
-use Rattle.assign_core.specs.Changes.{turned_at, value_there, Changes, IsChange, IsSoAt}
+use Rattle.relvar_logs.specs.Changes.{Changes, IsChange, turned_at, IsSoAt}
+use Rattle.assign_core.specs.Changes.{value_there}
 use Rattle.assign_core.specs.Hashed.{IsHashesOf}
 use Rattle.assign_core.specs.Turnovers.{renewed_relvar, MayExchange}
 

@@ -12,6 +12,7 @@ pub mod Turnovers
 pub mod Insertions
 pub mod Items
 pub mod Leanings
+pub mod Logs
 pub mod NewRows
 pub mod Parts
 pub mod PlainChanges

@@ -4,7 +4,7 @@
 --     value_brought, values_brought      its value, and the relvars with it, or the fault of too many rows
 --     brought, brought_in      the relvars, or why they are refused; and in a state, whose database constraints are asked last
 --     joined_cost, brought_cost      the steps that the rows of both take, and all steps
---     IsBrought, IsFoundIf, StaysUnless, TakesNoneIf      answers
+--     IsBrought, IsFoundIf, IsAloneIf, StaysUnless, TakesNoneIf      answers
 --     IsToldOf, IsPaidFor      what is told of rows and what they take, wherever they are written
 use Rattle.std.specs.Prelude.{◌≡◌, ℕ, ◌+◌, ◌≤◌, Bool, true, false, List, length, Option, Some, Result, Ok, Err}
 use Rattle.base_core.specs.Outcomes.{then_give}
@@ -15,6 +15,7 @@ use Rattle.value_core.specs.declared.refuse.Refuse.{Refuse}
 use Rattle.value_core.specs.Values.{Name, Heading, Row, Relation, IsRelation, rows_of}
 use Rattle.relation_core.specs.Answers.{under}
 use Rattle.tree_core.specs.Relvars.{base, Entries, State, relvar_named}
+use Rattle.meaning_core.specs.Logs.{has_log}
 use Rattle.meaning_core.specs.Meanings.{limited}
 use Rattle.meaning_core.specs.Typing.{IsListIf}
 use Rattle.algebra_core.specs.Costs.{paid}
@@ -93,6 +94,12 @@ abbrev pub IsFoundIf : Result Bool Refuse → State → Name → Heading → Typ
 IsFoundIf (Ok true) s name heading = IsBaseWith s name heading
 IsFoundIf (Ok false) s name heading = Unit {0}
 IsFoundIf (Err refuse) s name heading = IsBaseWith s name heading
+
+-- and only where there is no log
+abbrev pub IsAloneIf : Result Bool Refuse → State → Type 0
+IsAloneIf (Ok true) s = has_log s.relvars ≡ false
+IsAloneIf (Ok false) s = Unit {0}
+IsAloneIf (Err refuse) s = has_log s.relvars ≡ false
 
 -- unless rows are brought, the state stays
 abbrev pub StaysUnless : Result Bool Refuse → State → State → Type 0

@@ -17,7 +17,7 @@ use Rattle.u_constraints.specs.Growth.{exchanged}
 use Rattle.change_rows.specs.declared.exchange.Exchange.{Exchange}
 use Rattle.assign_core.specs.declared.turnover.Known.{Known}
 use Rattle.assign_core.specs.declared.turnover.Turnover.{Turnover}
-use Rattle.assign_core.specs.Changes.{turned_at, IsSoAt}
+use Rattle.relvar_logs.specs.Changes.{turned_at, IsSoAt}
 
 -- a relation after an exchange of rows
 abbrev pub renewed : Relation → Exchange → Relation

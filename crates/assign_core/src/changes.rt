@@ -4,7 +4,7 @@ ghost use Rattle.indexmap.specs.IndexMap.{index_map_len};
 ghost use Rattle.value_core.specs.Values.{Name as PlainName};
 ghost use Rattle.tree_core.specs.Relvars.{read_relvars, read_relvar, relvar_named, PlainRelvar};
 ghost use Rattle.assign_core.specs.Breaches.{value_if, value_of};
-ghost use Rattle.assign_core.specs.Changes.{AreChanges, changed, changed_relvar, newest};
+ghost use Rattle.relvar_logs.specs.Changes.{AreChanges, changed, changed_relvar, newest};
 
 use point_core::Memory;
 use std::alloc::Global;

@@ -7,8 +7,9 @@ ghost use Rattle.value_core.specs.Values.{Name as PlainName};
 ghost use Rattle.tree_core.specs.Relvars.{read_relvars, read_relvar, PlainRelvar};
 ghost use Rattle.u_constraints.specs.Constraints.{broken, names_relvar};
 ghost use Rattle.assign_core.specs.Breaches.{first_broken, first_in, first_of, rows_named, value_at};
-ghost use Rattle.assign_core.specs.Changes.{AreChanges, Tells, changed_relvar};
-ghost use Rattle.assign_core.specs.Checks.{after, before, can_break, change_named, AllChecked, AreChecked, HeldBefore, IsChecked};
+ghost use Rattle.relvar_logs.specs.Changes.{AreChanges, changed_relvar, change_named};
+ghost use Rattle.assign_core.specs.Changes.{Tells};
+ghost use Rattle.assign_core.specs.Checks.{after, before, can_break, AllChecked, AreChecked, HeldBefore, IsChecked};
 ghost use Rattle.assign_core.specs.Costs.{cost_over, looked_at, looked_at_in, looked_at_all};
 
 use crate::changes::{current, newer};

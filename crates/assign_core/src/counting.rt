@@ -1,12 +1,13 @@
 // How many rows the base relvars have together.
-ghost use Rattle.std.specs.Prelude.{◌≡◌, ◌<◌, length, nat_le, slice_index_or};
+ghost use Rattle.std.specs.Prelude.{◌≡◌, ◌<◌, ◌≤◌, length, nat_le, slice_index_or};
 ghost use Rattle.value_core.specs.Values.{Name as PlainName};
-ghost use Rattle.tree_core.specs.Relvars.{read_relvars, PlainRelvar};
+ghost use Rattle.value_core.specs.Limits.{most_rows_in_all};
+ghost use Rattle.tree_core.specs.Relvars.{read_relvar, read_relvars, PlainRelvar};
 ghost use Rattle.assign_core.specs.Breaches.{count_of, rows_of_all};
-ghost use Rattle.assign_core.specs.Changes.{changed};
+ghost use Rattle.relvar_logs.specs.Changes.{changed};
 
-use crate::changes::newest_at;
-use tree_core::Relvars;
+use crate::changes::{newest_at, value_of};
+use tree_core::{Relvar, Relvars};
 use value_core::Relation;
 
 /// Whether they have at most so many, with the new values.
@@ -23,6 +24,28 @@ pub(crate) fn are_few(relvars: &Relvars, changes: &[Option<Relation>], most: usi
         room -= count;
     }
     true
+}
+
+/// How many rows they have together.
+pub(crate) fn rows_of_bases(relvars: &Relvars) -> usize
+    requires { rows_of_all (read_relvars relvars.now).relvars ≤ most_rows_in_all }
+    ensures { result ≡ rows_of_all (read_relvars relvars.now).relvars }
+{
+    let mut count = 0;
+    for (_, relvar) in &relvars.list {
+        count += rows_of_base(relvar);
+    }
+    count
+}
+
+// How many rows a base relvar has; none of another one.
+fn rows_of_base(relvar: &Relvar) -> usize
+    ensures { (name : PlainName) → result ≡ count_of (name, read_relvar relvar.now) }
+{
+    match value_of(relvar) {
+        Some(value) => value.rows().len(),
+        None => 0,
+    }
 }
 
 // How many rows the base relvar at a place has.

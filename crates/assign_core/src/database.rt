@@ -1,40 +1,42 @@
 // The database.
-ghost use Rattle.std.specs.Prelude.{◌≡◌, ◌≤◌, ◌<ℤ◌, ◌+◌, map, option_map, take, OnOk, OnErr, IsOk};
+ghost use Rattle.std.specs.Prelude.{◌≡◌, ◌≤◌, ◌<ℤ◌, ◌+◌, ◌+ℤ◌, pos, is_ok, map, option_map, take, OnOk, OnErr, IsOk};
 ghost use Rattle.std.specs.List.{All};
 ghost use Rattle.point_core.specs.Whole.{greatest_whole};
 ghost use Rattle.tree_core.specs.Items.{read_assignment, read_item};
-ghost use Rattle.tree_core.specs.Relvars.{read_relvars};
+ghost use Rattle.tree_core.specs.Relvars.{read_relvars, State};
 ghost use Rattle.tree_core.specs.Trees.{read_test};
 ghost use Rattle.meaning_core.specs.Declarations.{counted, read_declaration, with_rule, without_group, without_rule};
 ghost use Rattle.meaning_core.specs.Typing.{IsListIf};
 ghost use Rattle.meaning_core.specs.WellMade.{IsWellMade};
-ghost use Rattle.meaning_core.specs.Updates.{IsTypedAssignment, IsTypedItem};
+ghost use Rattle.meaning_core.specs.Updates.{IsTypedAssignment, IsTypedItem, IsTypedLog};
 ghost use Rattle.algebra_core.specs.Costs.{test_cost};
 ghost use Rattle.assign_core.specs.Assignments.{constrained, IsAssigned, IsDone};
 ghost use Rattle.assign_core.specs.Costs.{cost_of_assignments};
 ghost use Rattle.assign_core.specs.Databases.{no_relvars, declared, IsKept};
 ghost use Rattle.assign_core.specs.Items.{assignments_of};
-ghost use Rattle.assign_core.specs.NewRows.{joining, replacing, IsFoundIf, IsPaidFor, IsToldOf, StaysUnless, TakesNoneIf};
+ghost use Rattle.assign_core.specs.Logs.{counted_if, is_brought, opened};
+ghost use Rattle.assign_core.specs.NewRows.{joining, replacing, IsAloneIf, IsFoundIf, IsPaidFor, IsToldOf, StaysUnless, TakesNoneIf};
 
 use crate::appending::append_all;
+use crate::assigning::{assign, bring_counted};
+use crate::counting::rows_of_bases;
 use crate::dropping::drop_group;
-use crate::filling::fill;
 use crate::hashed::{Hashed, no_hashes};
-use crate::new_rows::{Coming, bring};
+use crate::new_rows::Coming;
 use crate::performing::assignments;
-use crate::preparing::prepare;
 use crate::rules::add_rule;
-use crate::settling::settle;
 use indexmap::IndexMap;
 use point_core::{Memory, Steps};
+use relvar_logs::{count, has_log, open_log};
 use std::alloc::Global;
 use std::marker::Model;
 use std::sync::ledger::Ledger;
-use tree_core::{Assignment, Declaration, Item, RelTest, Relvars};
+use tree_core::{Assignment, Declaration, Item, LogData, RelTest, Relvars};
 use value_core::{Name, OrdinalTypes, Positions, Refuse, Relation};
 
-/// The ordinal types, relvars and views, the database constraints, and how many statements were accepted. They are well made, each constraint of a relvar and each database
-/// constraint holds, and the base relvars have at most 200,000 rows together.
+/// The ordinal types, relvars, views and logs, the database constraints, and how many statements were accepted. They are well made, each
+/// constraint of a relvar and each database constraint holds, the base relvars have at most 200,000 rows together, and each log tells what its
+/// relvar has after the last accepted statement.
 #[derive(Drop)]
 pub struct Database {
     alloc: Global,
@@ -46,6 +48,7 @@ impl Model for Database {
     ghost use Rattle.tree_core.specs.Relvars.{read_relvars};
     ghost use Rattle.tree_core.specs.contracts.relvar.Relvars as kept;
     ghost use Rattle.tree_core.specs.declared.relvar.Relvars.{Relvars};
+    ghost use Rattle.meaning_core.specs.Logs.{AreInStep};
     ghost use Rattle.assign_core.specs.Databases.{IsKept};
     ghost use Rattle.assign_core.specs.Hashed.{AreHashed};
 
@@ -55,7 +58,7 @@ impl Model for Database {
 
     ghost view = { λ d. d.relvars };
 
-    ghost invariant = { λ d. IsKept (read_relvars d.relvars) × AreHashed d.hashed (read_relvars d.relvars).relvars };
+    ghost invariant = { λ d. IsKept (read_relvars d.relvars) × AreHashed d.hashed (read_relvars d.relvars).relvars × AreInStep (read_relvars d.relvars).accepted (read_relvars d.relvars).relvars };
 }
 
 impl Database {
@@ -105,60 +108,73 @@ impl Database {
         }
     }
 
-    /// Gives each target the value of its source, all together, or refuses and changes nothing.
+    /// Declares a log of a base relvar, which begins with this statement, and counts the statement; or refuses and changes nothing. It is
+    /// refused where the base relvars and logs would have more than 200,000 rows together.
+    pub fn open_log(&mut self, log: LogData) -> Result<(), Refuse>
+        requires typed { IsTypedLog (read_relvars self.old) log }
+        requires room { ((read_relvars self.old).accepted +ℤ pos 1) <ℤ greatest_whole }
+        ensures { (mid : State) × IsDone result (read_relvars self.old) mid (opened (read_relvars self.old) log) × (read_relvars self.new ≡ counted_if (is_ok result) mid) }
+    {
+        let rows = rows_of_bases(&self.relvars);
+        self.hashed = no_hashes(self.alloc);
+        open_log(self.alloc, &mut self.relvars, log, rows)
+    }
+
+    /// Gives each target the value of its source, all together, and counts the statement; or refuses and changes nothing.
     ///
     /// The sources are evaluated in order. Each sees the relvars as they are, its own target alone with the value of the latest
-    /// earlier assignment to it. The first fault counts; then more than 200,000 rows; then the first broken constraint of a relvar; then
-    /// the first broken database constraint.
+    /// earlier assignment to it. The first fault counts; then more than 200,000 rows of base relvars and logs, or more than 100,000 of a log;
+    /// then the first broken constraint of a relvar; then the first broken database constraint.
     pub fn assign<L: Ledger>(
         &mut self,
         list: &[Assignment],
         steps: &mut Steps<L>,
     ) -> Result<(), Refuse>
         requires typed { All (IsTypedAssignment (read_relvars self.old)) (map read_assignment list.now) }
-        ensures assigned { IsAssigned result (read_relvars self.old) (read_relvars self.new) (map read_assignment list.now) }
+        requires room { ((read_relvars self.old).accepted +ℤ pos 1) <ℤ greatest_whole }
+        ensures assigned { (mid : State) × IsAssigned result (read_relvars self.old) mid (map read_assignment list.now) × (read_relvars self.new ≡ counted_if (is_ok result) mid) }
         ensures cost { steps.new ≤ steps.old + cost_of_assignments (read_relvars self.old) (map read_assignment list.now) }
     {
-        fill(self.alloc, list, &self.relvars, &mut self.hashed)?;
-        match prepare(self.alloc, list, &self.relvars, &self.hashed, steps) {
-            Ok(ready) => settle(
-                self.alloc,
-                &mut self.relvars,
-                &mut self.hashed,
-                ready,
-                steps,
-            ),
-            Err(refuse) => Err(refuse),
-        }
+        assign(
+            self.alloc,
+            &mut self.relvars,
+            &mut self.hashed,
+            list,
+            steps,
+        )
     }
 
-    /// Performs the items of an assignment, all together, or refuses and changes nothing. Each stands for assignments, which come in the
-    /// order of the items.
+    /// Performs the items of an assignment, all together, and counts the statement; or refuses and changes nothing. Each stands for
+    /// assignments, which come in the order of the items.
     pub fn perform<L: Ledger>(&mut self, items: &[Item], steps: &mut Steps<L>) -> Result<(), Refuse>
         requires typed { All (IsTypedItem (read_relvars self.old)) (map read_item items.now) }
-        ensures performed { IsAssigned result (read_relvars self.old) (read_relvars self.new) (assignments_of (read_relvars self.old).relvars (map read_item items.now)) }
+        requires room { ((read_relvars self.old).accepted +ℤ pos 1) <ℤ greatest_whole }
+        ensures performed { (mid : State) × IsAssigned result (read_relvars self.old) mid (assignments_of (read_relvars self.old).relvars (map read_item items.now)) × (read_relvars self.new ≡ counted_if (is_ok result) mid) }
         ensures cost { steps.new ≤ steps.old + cost_of_assignments (read_relvars self.old) (assignments_of (read_relvars self.old).relvars (map read_item items.now)) }
     {
         let list = assignments(self.alloc, items, self.relvars())?;
         self.assign(&list, steps)
     }
 
-    /// Puts the rows in place of those of the base relvar of this name; or refuses and changes nothing.
+    /// Puts the rows in place of those of the base relvar of this name, and counts the statement; or refuses and changes nothing.
     ///
-    /// It is `Ok(false)`, with nothing changed and no step taken, where no base relvar of this name has the rows' heading.
+    /// It is `Ok(false)`, with nothing changed and no step taken, where no base relvar of this name has the rows' heading, and where there is
+    /// a log.
     pub fn set_rows<L: Ledger>(
         &mut self,
         target: &Name,
         rows: Relation,
         steps: &mut Steps<L>,
     ) -> Result<bool, Refuse>
-        ensures brought { IsToldOf replacing result (read_relvars self.old) (read_relvars self.new) target.now rows }
+        requires room { ((read_relvars self.old).accepted +ℤ pos 1) <ℤ greatest_whole }
+        ensures brought { (mid : State) × IsToldOf replacing result (read_relvars self.old) mid target.now rows × (read_relvars self.new ≡ counted_if (is_brought result) mid) }
         ensures found { IsFoundIf result (read_relvars self.old) target.now rows.heading }
+        ensures alone { IsAloneIf result (read_relvars self.old) }
         ensures stays { StaysUnless result (read_relvars self.old) (read_relvars self.new) }
         ensures none { TakesNoneIf result steps.old steps.new }
         ensures cost { IsPaidFor replacing (read_relvars self.old) target.now rows steps.old steps.new }
     {
-        bring(
+        bring_counted(
             self.alloc,
             &mut self.relvars,
             &mut self.hashed,
@@ -169,11 +185,11 @@ impl Database {
         )
     }
 
-    /// Adds the rows to those of the base relvar of this name, under USING of the attributes of a list where one is given; or refuses and
-    /// changes nothing.
+    /// Adds the rows to those of the base relvar of this name, under USING of the attributes of a list where one is given, and counts the
+    /// statement; or refuses and changes nothing.
     ///
     /// It is `Ok(false)`, with nothing changed and no step taken, where no base relvar of this name has the rows' heading, where it has
-    /// more than 100,000 rows with them, each counted, and where the list is not one attribute.
+    /// more than 100,000 rows with them, each counted, where the list is not one attribute, and where there is a log.
     pub fn insert_rows<L: Ledger>(
         &mut self,
         target: &Name,
@@ -181,14 +197,16 @@ impl Database {
         rows: Relation,
         steps: &mut Steps<L>,
     ) -> Result<bool, Refuse>
-        requires { IsListIf rows.heading (option_map (λ l. l.now) commalist) }
-        ensures brought { IsToldOf (joining (option_map (λ l. l.now) commalist.entry)) result (read_relvars self.old) (read_relvars self.new) target.now rows }
+        requires list { IsListIf rows.heading (option_map (λ l. l.now) commalist) }
+        requires room { ((read_relvars self.old).accepted +ℤ pos 1) <ℤ greatest_whole }
+        ensures brought { (mid : State) × IsToldOf (joining (option_map (λ l. l.now) commalist.entry)) result (read_relvars self.old) mid target.now rows × (read_relvars self.new ≡ counted_if (is_brought result) mid) }
         ensures found { IsFoundIf result (read_relvars self.old) target.now rows.heading }
+        ensures alone { IsAloneIf result (read_relvars self.old) }
         ensures stays { StaysUnless result (read_relvars self.old) (read_relvars self.new) }
         ensures none { TakesNoneIf result steps.old steps.new }
         ensures cost { IsPaidFor (joining (option_map (λ l. l.now) commalist.entry)) (read_relvars self.old) target.now rows steps.old steps.new }
     {
-        bring(
+        bring_counted(
             self.alloc,
             &mut self.relvars,
             &mut self.hashed,
@@ -233,12 +251,16 @@ impl Database {
         Ok(())
     }
 
-    /// Counts a statement that is accepted.
+    /// Counts a statement that is accepted and changes no base relvar. It takes no memory.
     pub fn accept(&mut self)
-        requires room { (read_relvars self.old).accepted <ℤ greatest_whole }
+        requires room { ((read_relvars self.old).accepted +ℤ pos 1) <ℤ greatest_whole }
         ensures { read_relvars self.new ≡ counted (read_relvars self.old) }
     {
-        self.relvars.accepted += 1;
+        if has_log(&self.relvars) {
+            count(&mut self.relvars, &mut []);
+        } else {
+            self.relvars.accepted += 1;
+        }
     }
 }
 

@@ -3,7 +3,8 @@ ghost use Rattle.std.specs.Prelude.{◌≡◌, ◌<◌, ◌≤◌, [], ◌∷◌
 ghost use Rattle.std.specs.Vec.{vec_len};
 ghost use Rattle.tree_core.specs.Relvars.{read_entry, read_relvar};
 ghost use Rattle.meaning_core.specs.Names.{with_value};
-ghost use Rattle.assign_core.specs.Changes.{turned_at, value_or, value_there, IsSoAt};
+ghost use Rattle.relvar_logs.specs.Changes.{turned_at, IsSoAt};
+ghost use Rattle.assign_core.specs.Changes.{value_or, value_there};
 ghost use Rattle.assign_core.specs.Exchanges.{exchanged_by, filled, place_of, refilled_relvar, replaced, turned, ArePrepared, AreValues, IsHeldFor, IsHeldOf, MayTurn};
 ghost use Rattle.assign_core.specs.Hashed.{AreHashed, AreHashesIn};
 ghost use Rattle.assign_core.specs.Turnovers.{renewed_relvar, IsExchangeAt, MayExchange};

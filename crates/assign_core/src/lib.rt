@@ -3,6 +3,7 @@
 
 mod addition;
 mod appending;
+mod assigning;
 mod by_condition;
 mod changes;
 mod checking;
@@ -15,6 +16,7 @@ mod filling;
 mod finding;
 mod hashed;
 mod insertion;
+mod logs;
 mod marking;
 mod merging;
 mod new_rows;

@@ -2,13 +2,15 @@
 ghost use Rattle.std.specs.Prelude.{◌≡◌, ◌≤◌, ◌+◌, [], ◌∷◌, ◌++◌, length, map, replicate, None, Ok, IfOk, IfErr, OnOk};
 ghost use Rattle.std.specs.List.{All};
 ghost use Rattle.relation_core.specs.Hashes.{AreHashesOf};
+ghost use Rattle.scalar_core.specs.Answers.{Gives};
 ghost use Rattle.tree_core.specs.Items.{read_assignment};
 ghost use Rattle.tree_core.specs.Relvars.{read_relvars};
 ghost use Rattle.meaning_core.specs.Updates.{IsTypedAssignment};
+ghost use Rattle.meaning_core.specs.WellMade.{IsWellMade};
 ghost use Rattle.change_rows.specs.Exchanges.{IsExchange};
-ghost use Rattle.assign_core.specs.Assignments.{after_assignments, kept_or_refused, of_values, with_target, IsRefusedFor, IsAdmitted};
-ghost use Rattle.assign_core.specs.Changes.{AreChanges, changed};
-ghost use Rattle.assign_core.specs.Costs.{assignments_cost, constraints_cost, constraints_cost_of};
+ghost use Rattle.assign_core.specs.Assignments.{after_assignments, evaluated, kept_or_refused, of_values, with_target, IsRefusedFor, IsAdmitted};
+ghost use Rattle.relvar_logs.specs.Changes.{AreChanges, changed};
+ghost use Rattle.assign_core.specs.Costs.{assignments_cost, constraints_cost, constraints_cost_of, sources_cost};
 ghost use Rattle.assign_core.specs.Databases.{IsKept};
 ghost use Rattle.assign_core.specs.declared.exchange.Change.TheVariants.{Rows};
 ghost use Rattle.assign_core.specs.Exchanges.{value_here, values_from, with_ready, IsReady};
@@ -32,7 +34,7 @@ use crate::target::Target;
 use crate::tuning::ROWS_LOOKED_AT_FOR_ONE;
 use crate::turnover::{Known, have_room};
 use change_rows::Exchange;
-use point_core::{Code, Memory, Steps};
+use point_core::{Code, Memory, Steps, Stop};
 use std::alloc::Global;
 use std::sync::ledger::Ledger;
 use tree_core::{Assignment, Relvars};
@@ -74,8 +76,43 @@ pub(crate) fn prepare_all<L: Ledger>(
     ensures refused { IfErr result (λ refuse. IsRefusedFor refuse (after_assignments (read_relvars relvars.now).relvars (map read_assignment list.now))) }
     ensures cost { steps.new ≤ steps.old + assignments_cost (read_relvars relvars.now).relvars (map read_assignment list.now) }
 {
+    let changes = new_values(alloc, list, relvars, steps)?;
+    admit_values(alloc, relvars, changes, steps)
+}
+
+/// The new values of all targets, or the first fault.
+pub(crate) fn new_values<L: Ledger>(
+    alloc: Global,
+    list: &[Assignment],
+    relvars: &Relvars,
+    steps: &mut Steps<L>,
+) -> Result<Vec<Option<Relation>>, Stop>
+    requires well_made { IsWellMade (read_relvars relvars.now) }
+    requires typed { All (λ a. IsTypedAssignment (read_relvars relvars.now) (read_assignment a)) list.now }
+    ensures changes { IfOk result (λ v. AreChanges v.items (read_relvars relvars.now).relvars) }
+    ensures value { Gives (λ v. changed v.items (read_relvars relvars.now).relvars) result (evaluated (read_relvars relvars.now).relvars (read_relvars relvars.now).relvars (map read_assignment list.now)) }
+    ensures cost { steps.new ≤ steps.old + sources_cost (read_relvars relvars.now).relvars (read_relvars relvars.now).relvars (map read_assignment list.now) }
+{
     let mut changes = none_yet(alloc, relvars)?;
     evaluate(alloc, list, relvars, &mut changes, steps)?;
+    Ok(changes)
+}
+
+/// New values as what stands ready, or why they are refused.
+pub(crate) fn admit_values<L: Ledger>(
+    alloc: Global,
+    relvars: &Relvars,
+    changes: Vec<Option<Relation>>,
+    steps: &mut Steps<L>,
+) -> Result<Ready, Refuse>
+    requires kept { IsKept (read_relvars relvars.now) }
+    requires changes { AreChanges changes.items (read_relvars relvars.now).relvars }
+    ensures ready { IfOk result (λ r. IsReady r (read_relvars relvars.now).relvars) }
+    ensures made { IfOk result (λ r. with_ready r (read_relvars relvars.now).relvars ≡ changed changes.items (read_relvars relvars.now).relvars) }
+    ensures admitted { IfOk result (λ r. kept_or_refused (changed changes.items (read_relvars relvars.now).relvars) ≡ Ok (changed changes.items (read_relvars relvars.now).relvars)) }
+    ensures refused { IfErr result (λ refuse. IsRefusedFor refuse (kept_or_refused (changed changes.items (read_relvars relvars.now).relvars))) }
+    ensures cost { steps.new ≤ steps.old + constraints_cost (changed changes.items (read_relvars relvars.now).relvars) }
+{
     admit(alloc, relvars, changes.as_slice(), steps)?;
     let ready = as_ready(alloc, changes)?;
     Ok(ready)

@@ -3,7 +3,7 @@ ghost use Rattle.std.specs.Prelude.{◌≡◌, ◌+◌, ◌≤◌, map, IfOk, On
 ghost use Rattle.std.specs.List.{list_any};
 ghost use Rattle.tree_core.specs.Relvars.{read_entry, read_relvar, read_relvars};
 ghost use Rattle.meaning_core.specs.Names.{with_value};
-ghost use Rattle.assign_core.specs.Changes.{IsChange, IsSoAt};
+ghost use Rattle.relvar_logs.specs.Changes.{IsChange, IsSoAt};
 ghost use Rattle.assign_core.specs.Costs.{rules_cost};
 ghost use Rattle.assign_core.specs.Databases.{IsKept, IsSettled};
 ghost use Rattle.assign_core.specs.Exchanges.{exchanged_by, place_of, with_ready, ArePrepared, AreValues, IsReady, IsValueFor, MayTurn};

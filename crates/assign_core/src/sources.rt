@@ -12,7 +12,7 @@ ghost use Rattle.meaning_core.specs.Updates.{IsTypedAssignment};
 ghost use Rattle.meaning_core.specs.WellMade.{IsTypedFor, IsWellMade};
 ghost use Rattle.algebra_core.specs.Costs.{cost_in};
 ghost use Rattle.assign_core.specs.Assignments.{seen_by, evaluated};
-ghost use Rattle.assign_core.specs.Changes.{AreChanges, changed};
+ghost use Rattle.relvar_logs.specs.Changes.{AreChanges, changed};
 ghost use Rattle.assign_core.specs.Costs.{source_cost, sources_cost};
 
 use crate::changes::current;

@@ -1,11 +1,10 @@
 -- What LOG declares can be opened, and keeps a state well made.
-use Rattle.std.specs.Prelude.{◌≡◌, ◌<◌, ◌-◌, ℕ, Bool, true, false, ◌&&◌, cond, List, [], ◌∷◌, ◌++◌, length, nat_le, Option, Some, None, Ok, Err, IfOk, IsTrue, refl}
+use Rattle.std.specs.Prelude.{◌≡◌, ◌<◌, ◌-◌, ℕ, Bool, true, false, cond, List, [], ◌∷◌, ◌++◌, length, nat_le, Option, Some, None, Ok, Err, IfOk, IsTrue, refl}
 use Rattle.std.proofs.Common.{inl, inr, arith, sym, subst}
 use Rattle.std.specs.List.{list_all}
 use Rattle.std.specs.Str.{bytes_eq}
 use Rattle.std.proofs.lemmas.Bool.{and_parts, and_from, le-leb, leb-true}
 use Rattle.base_core.proofs.MemberLemmas.{list_all-In}
-use Rattle.base_core.proofs.SetLemmas.{In}
 use Rattle.base_core.proofs.SetOperatorLemmas.{is_set-Ascends, length-in_order}
 use Rattle.point_core.specs.declared.fault.Place.{Place}
 use Rattle.point_core.specs.declared.fault.Code.TheVariants.{E17}
@@ -19,7 +18,7 @@ use Rattle.value_core.proofs.HeadingLemmas.{attribute_total}
 use Rattle.relation_core.proofs.ApartLemmas.{ascends_in_order, from_in_order}
 use Rattle.scalar_typing.proofs.SoundLemmas.{then-sound, any-given}
 use Rattle.relation_typing.specs.Attributes.{name_typed, new_name as new_attribute}
-use Rattle.log_times.specs.Turns.{kind_of_statements, log_heading, side_of}
+use Rattle.log_times.specs.Turns.{kind_of_statements, log_heading}
 use Rattle.log_times.proofs.HeadingLemmas.{log_placed, log_without}
 use Rattle.tree_core.specs.declared.declaration.LogData.{LogData}
 use Rattle.tree_core.specs.Relvars.{State, PlainRelvar, base, view, log, Entries, relvar_named, heading_if}

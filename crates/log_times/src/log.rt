@@ -1,5 +1,6 @@
 // Logs as they are stored.
 ghost use Rattle.std.specs.Prelude.{◌≡◌, ◌<ℤ◌, ◌≤ℤ◌, IfOk};
+ghost use Rattle.value_core.specs.Values.{IsRelation};
 ghost use Rattle.log_times.specs.Logs.{open_end};
 ghost use Rattle.log_times.specs.Kept.{log_relation, IsLog};
 
@@ -72,12 +73,16 @@ impl Log {
     {
         closed(alloc, &self.stored, self.side, self.last)
     }
+
     /// Brings the log to a later statement, before which its relvar stayed as it was.
     pub fn advance(&mut self, number: i64)
         requires later { self.old.last ≤ℤ number }
         requires before { number <ℤ open_end }
-        ensures { self.new ≡ record { side = self.old.side; last = number; stored = self.old.stored } }
+        ensures later { self.new ≡ record { side = self.old.side; last = number; stored = self.old.stored } }
+        ensures log { IsLog self.old }
+        ensures relation { IsRelation self.old.stored }
     {
+        let _ = self.stored.rows();
         self.last = number;
     }
 }

@@ -1,3 +1,4 @@
 pub mod StandingLemmas
 pub mod ExchangeLemmas
 pub mod TurnedLemmas
+pub mod ValueLemmas

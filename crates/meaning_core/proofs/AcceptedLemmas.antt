@@ -2,7 +2,7 @@
 --     made-counted      it is well made, however many statements were accepted
 --     bare-turned      its relvars differ in the rows of logs alone
 --     made-turned      it is well made with its logs turned
-use Rattle.std.proofs.Common.{◌≡◌, ℤ, List, [], ◌∷◌, map, refl}
+use Rattle.std.proofs.Common.{◌≡◌, ℤ, [], ◌∷◌, map, refl}
 use Rattle.tree_core.specs.Relvars.{PlainRelvar, base, view, log, Entries, State}
 use Rattle.meaning_core.specs.Declarations.{counted}
 use Rattle.meaning_core.specs.Logs.{turned_relvar, turned_logs}

@@ -6,8 +6,8 @@
 --     truth-unaffected      two lists of entries that differ at some names alone
 --     truth-dropped      what is left is well made, and the test is typed for it
 --     truth-appended      more entries behind those for which the test is typed
-use Rattle.std.proofs.Common.{◌≡◌, ℕ, Bool, true, false, not, cond, List, [], ◌∷◌, ◌++◌, map, filter, refl, sym, ap, ◌∙◌, subst, Option, Some, None, Ok, inl, inr, ◌⊎◌}
-use Rattle.std.specs.Prelude.{is_none, ◌||◌, if◌then◌else◌}
+use Rattle.std.proofs.Common.{◌≡◌, ℕ, Bool, true, false, not, cond, List, [], ◌∷◌, ◌++◌, filter, refl, sym, ap, ◌∙◌, subst, Option, Some, None, Ok, inl, inr, ◌⊎◌}
+use Rattle.std.specs.Prelude.{is_none, ◌||◌}
 use Rattle.std.specs.List.{list_any}
 use Rattle.std.specs.Str.{bytes_eq}
 use Rattle.std.proofs.lemmas.Bool.{or_parts, or_cases, true≢false, false_from_ne_true}
@@ -20,8 +20,8 @@ use Rattle.tree_core.specs.Trees.{Tree, named, literal, infix_of, project, renam
 use Rattle.tree_core.specs.Uses.{is_one_of, names_any, test_names_any}
 use Rattle.meaning_core.specs.Declarations.{without_all}
 use Rattle.meaning_core.specs.Meanings.{RowsMeant, Known, Around, plainly, in_using, at_name, limited, meaning, relvar_meaning, known_in, meaning_in, names_at}
-use Rattle.meaning_core.specs.Names.{found, each_after, given, given_entry, given_relvar, with_value}
-use Rattle.meaning_core.specs.Truths.{truth_of, truth_in, holds_in, is_held}
+use Rattle.meaning_core.specs.Names.{found, each_after, given, given_entry, with_value}
+use Rattle.meaning_core.specs.Truths.{truth_of, truth_in}
 use Rattle.meaning_core.specs.Typing.{Headings, heading_named, IsTypedTree, IsTypedTest}
 use Rattle.meaning_core.specs.WellMade.{sizes_of, headings_of, IsRelvar, AreRelvars, IsWellMade, IsTypedTestFor}
 use Rattle.meaning_core.proofs.MadeLemmas.{same_name}

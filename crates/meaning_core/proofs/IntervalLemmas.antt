@@ -1,5 +1,5 @@
 -- The list of a typed node or of a constraint is one of interval attributes.
-use Rattle.std.proofs.Common.{◌≡◌, ℕ, ◌<◌, List, get_or, refl, sym}
+use Rattle.std.proofs.Common.{◌≡◌, ℕ, List, get_or, refl, sym}
 use Rattle.std.specs.Bool.{IsTrue}
 use Rattle.std.proofs.lemmas.Bool.{true≢false}
 use Rattle.std.proofs.lemmas.List.Elements.{Contains-get_or}

@@ -2,18 +2,16 @@
 --     truth-turned      a test that names no log, itself or through views, is as true when the logs are turned
 --     apart-appended, apart-dropped      such a test names none among more entries, and among those that are left
 --     turned-none, in_step-none      where there is no log
-use Rattle.std.proofs.Common.{◌≡◌, ℕ, ℤ, Bool, true, false, cond, List, [], ◌∷◌, ◌++◌, map, refl, sym, ap, ◌∙◌, true≢false, Ok}
+use Rattle.std.proofs.Common.{◌≡◌, ℕ, Bool, true, false, cond, List, [], ◌∷◌, ◌++◌, map, refl, sym, ap, ◌∙◌, true≢false, Ok}
 use Rattle.std.specs.Prelude.{is_none}
-use Rattle.std.specs.List.{All}
 use Rattle.std.specs.Str.{bytes_eq}
 use Rattle.std.proofs.lemmas.Bool.{or_parts}
 use Rattle.std.proofs.lemmas.List.{map-append}
-use Rattle.std.proofs.lemmas.List.Elements.{All-head, All-tail}
 use Rattle.value_core.specs.Values.{Name}
 use Rattle.tree_core.specs.Relvars.{PlainRelvar, base, view, log, Entries}
-use Rattle.tree_core.specs.Trees.{Tree, Test}
-use Rattle.tree_core.specs.Uses.{names_any, test_names_any}
-use Rattle.meaning_core.specs.Logs.{is_log, has_log, turned_relvar, turned_logs, is_over_log, over_log, IsInStep, AreInStep}
+use Rattle.tree_core.specs.Trees.{Test}
+use Rattle.tree_core.specs.Uses.{test_names_any}
+use Rattle.meaning_core.specs.Logs.{is_log, has_log, turned_relvar, turned_logs, is_over_log, over_log}
 use Rattle.meaning_core.specs.Meanings.{RowsMeant, Known, plainly, relvar_meaning, known_in}
 use Rattle.meaning_core.specs.Names.{found, each_after}
 use Rattle.meaning_core.specs.Truths.{truth_in}

@@ -3,11 +3,11 @@
 --     tree-behind, test-behind      with more entries behind
 --     tree-left, test-left      without entries that it does not name
 --     rules-behind      database constraints, with one relvar or view more
-use Rattle.std.proofs.Common.{◌≡◌, ℕ, Bool, true, false, cond, List, [], ◌∷◌, ◌++◌, get_or, refl, sym, ap, ◌∙◌, Option, Some, None}
+use Rattle.std.proofs.Common.{◌≡◌, ℕ, Bool, true, false, cond, List, [], ◌∷◌, ◌++◌, get_or, sym, ap, ◌∙◌, Some}
 use Rattle.std.specs.Prelude.{is_none, option_map}
 use Rattle.std.specs.List.{All}
 use Rattle.std.specs.Str.{bytes_eq}
-use Rattle.std.proofs.lemmas.Bool.{or_parts, true≢false}
+use Rattle.std.proofs.lemmas.Bool.{or_parts}
 use Rattle.value_core.specs.Values.{Name, Heading}
 use Rattle.tree_core.specs.Relvars.{PlainRelvar, Entries, State, relvar_heading}
 use Rattle.tree_core.specs.Trees.{Tree, named, literal, infix_of, project, rename, restrict, extend, summarize, pack, unpack, using, Test, relate, is_empty, is_not_empty}

@@ -1,7 +1,7 @@
 use Rattle.std.proofs.Common.{List, length, map, ap, sym, subst, ◌∙◌, arith, None, replicate}
 use Rattle.value_core.specs.Values.{Row}
 use Rattle.tree_core.specs.Relvars.{Entries, read_entry, read_relvars}
-use Rattle.assign_core.specs.Changes.{Changes}
+use Rattle.relvar_logs.specs.Changes.{Changes}
 use Rattle.assign_core.specs.Checks.{AllChecked}
 use Rattle.assign_core.specs.Targets.{entries_before}
 use Rattle.assign_core.specs.Turnovers.{renewed_at}

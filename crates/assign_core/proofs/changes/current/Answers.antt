@@ -5,7 +5,7 @@ use Rattle.tree_core.specs.declared.relvar.Relvar.{Relvar}
 use Rattle.tree_core.specs.Relvars.{read_entry, read_relvar}
 use Rattle.meaning_core.proofs.LookupLemmas.{found_at, none_passes}
 use Rattle.assign_core.specs.Breaches.{value_if, value_of}
-use Rattle.assign_core.specs.Changes.{changed_relvar}
+use Rattle.relvar_logs.specs.Changes.{changed_relvar}
 use Rattle.assign_core.proofs.ChangeLemmas.{found_changed, absent_changed}
 use Rattle.assign_core.proofs.changes.current.Goals as goal
 

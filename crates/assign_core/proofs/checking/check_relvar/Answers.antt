@@ -5,7 +5,7 @@ use Rattle.value_core.specs.Values.{Relation}
 use Rattle.tree_core.specs.declared.relvar.Relvar.{Relvar}
 use Rattle.tree_core.specs.Relvars.{read_relvar}
 use Rattle.assign_core.specs.Breaches.{first_in}
-use Rattle.assign_core.specs.Changes.{newest}
+use Rattle.relvar_logs.specs.Changes.{newest}
 use Rattle.assign_core.specs.Checks.{before, HeldBefore}
 use Rattle.assign_core.proofs.TouchLemmas.{held_relvar}
 use Rattle.assign_core.proofs.checking.check_relvar.Goals as goal

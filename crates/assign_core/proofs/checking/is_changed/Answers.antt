@@ -4,7 +4,7 @@ use Rattle.value_core.specs.Values.{Name}
 use Rattle.tree_core.specs.declared.relvar.Relvar.{Relvar}
 use Rattle.tree_core.specs.Relvars.{read_entry, read_relvar}
 use Rattle.meaning_core.proofs.LookupLemmas.{found_at, none_passes}
-use Rattle.assign_core.proofs.ChangeLemmas.{entries_length}
+use Rattle.relvar_logs.proofs.EntryLemmas.{entries_length}
 use Rattle.assign_core.proofs.TouchLemmas.{found_change, absent_change}
 use Rattle.assign_core.proofs.checking.is_changed.Goals as goal
 

@@ -1,8 +1,8 @@
 use Rattle.std.proofs.Common.{◌<◌, ◌≤◌, [], length, map, sym, ◌∙◌, arith}
 use Rattle.value_core.specs.Values.{Name}
 use Rattle.tree_core.specs.Relvars.{PlainRelvar, read_entry}
-use Rattle.assign_core.specs.Changes.{changed}
-use Rattle.assign_core.proofs.ChangeLemmas.{entries_length}
+use Rattle.relvar_logs.specs.Changes.{changed}
+use Rattle.relvar_logs.proofs.EntryLemmas.{entries_length}
 use Rattle.assign_core.proofs.CountLemmas.{changed_length, too_many, next_room, few_enough}
 use Rattle.tree_core.specs.Relvars.{base}
 use Rattle.assign_core.proofs.counting.are_few.Goals as goal

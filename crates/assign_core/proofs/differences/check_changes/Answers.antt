@@ -1,7 +1,8 @@
 use Rattle.std.proofs.Common.{map, ◌∙◌}
 use Rattle.tree_core.specs.Relvars.{read_entry, read_relvars}
 use Rattle.assign_core.proofs.AssignedLemmas.{kept_checked}
-use Rattle.assign_core.proofs.ChangeLemmas.{same_length, entries_length}
+use Rattle.relvar_logs.proofs.EntryLemmas.{entries_length}
+use Rattle.assign_core.proofs.ChangeLemmas.{same_length}
 use Rattle.assign_core.proofs.differences.check_changes.Goals as goal
 
 pub only_one-requires : goal.only_one-requires

@@ -1,7 +1,8 @@
 use Rattle.std.proofs.Common.{◌≡◌, ◌≤◌, ◌+◌, ◌∙◌, length, map, subst, sym, replicate, None}
 use Rattle.tree_core.specs.Relvars.{Entries, read_entry, read_relvars}
 use Rattle.assign_core.specs.Breaches.{first_broken}
-use Rattle.assign_core.specs.Changes.{Changes, Tells}
+use Rattle.relvar_logs.specs.Changes.{Changes}
+use Rattle.assign_core.specs.Changes.{Tells}
 use Rattle.assign_core.specs.Checks.{before, AllChecked}
 use Rattle.assign_core.specs.Costs.{looked_at_all}
 use Rattle.assign_core.specs.Turnovers.{after_turnover, before_turnover, IsKnown, IsMade, IsTurnover}

@@ -2,7 +2,7 @@ use Rattle.std.proofs.Common.{rules, ◌≡◌, ◌<◌, drop, length, map, sym,
 use Rattle.tree_core.specs.Relvars.{Entries, read_entry}
 use Rattle.assign_core.specs.declared.exchange.Change.{Change}
 use Rattle.assign_core.specs.Exchanges.{filled, place_of, turned, replaced, AreValues, IsHeldFor}
-use Rattle.assign_core.specs.Changes.{turned_at, IsSoAt}
+use Rattle.relvar_logs.specs.Changes.{turned_at, IsSoAt}
 use Rattle.std.proofs.Common.{[], ◌∷◌}
 use Rattle.assign_core.proofs.ExchangeLemmas.{back_here, exchanged_here, held_here, prepared_here, same_item}
 use Rattle.assign_core.proofs.exchange.+exchange_from.Goals as goal

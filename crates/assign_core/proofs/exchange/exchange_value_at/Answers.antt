@@ -1,7 +1,8 @@
 use Rattle.std.proofs.Common.{map}
 use Rattle.tree_core.specs.Relvars.{read_entry}
 use Rattle.meaning_core.specs.Names.{with_value}
-use Rattle.assign_core.proofs.ExchangeLemmas.{back_there, set_turned}
+use Rattle.relvar_logs.proofs.EntryLemmas.{set_turned}
+use Rattle.assign_core.proofs.ExchangeLemmas.{back_there}
 use Rattle.assign_core.proofs.HashedLemmas.{others_hashed}
 use Rattle.std.proofs.Common.{◌∙◌}
 use Rattle.assign_core.proofs.exchange.exchange_value_at.Goals as goal

@@ -3,8 +3,8 @@ use Rattle.std.proofs.lemmas.Result.{on_err_weaker}
 use Rattle.tree_core.specs.Relvars.{read_entry}
 use Rattle.assign_core.specs.Exchanges.{refilled_relvar, IsHeldOf}
 use Rattle.assign_core.specs.Turnovers.{MayExchange}
-use Rattle.assign_core.proofs.ChangeLemmas.{entries_length}
-use Rattle.assign_core.proofs.ExchangeLemmas.{if_ok_weaker, set_same, so_set, so_there, so_within, turned_to}
+use Rattle.relvar_logs.proofs.EntryLemmas.{entries_length, set_same, so_set, so_there, so_within, turned_to}
+use Rattle.assign_core.proofs.ExchangeLemmas.{if_ok_weaker}
 use Rattle.assign_core.proofs.HashedLemmas.{hashes_entry, others_hashed}
 use Rattle.assign_core.proofs.exchange.hold_at.Goals as goal
 

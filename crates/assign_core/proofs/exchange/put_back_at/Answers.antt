@@ -1,8 +1,7 @@
 use Rattle.std.proofs.Common.{map, arith}
 use Rattle.tree_core.specs.Relvars.{read_entry}
 use Rattle.assign_core.specs.Exchanges.{refilled_relvar, IsHeldOf}
-use Rattle.assign_core.proofs.ChangeLemmas.{entries_length}
-use Rattle.assign_core.proofs.ExchangeLemmas.{set_turned, so_there, so_within}
+use Rattle.relvar_logs.proofs.EntryLemmas.{entries_length, set_turned, so_there, so_within}
 use Rattle.assign_core.proofs.HashedLemmas.{others_hashed}
 use Rattle.assign_core.proofs.exchange.put_back_at.Goals as goal
 

@@ -2,8 +2,8 @@ use Rattle.std.proofs.Common.{◌<◌, length, map, subst, arith}
 use Rattle.tree_core.specs.Relvars.{read_entry}
 use Rattle.assign_core.specs.declared.exchange.Change.{Change}
 use Rattle.assign_core.specs.Exchanges.{place_of, IsHeldFor}
-use Rattle.assign_core.proofs.ChangeLemmas.{entries_length}
-use Rattle.assign_core.proofs.ExchangeLemmas.{none_held, so_within}
+use Rattle.relvar_logs.proofs.EntryLemmas.{entries_length, so_within}
+use Rattle.assign_core.proofs.ExchangeLemmas.{none_held}
 use Rattle.assign_core.proofs.exchange.turn.Goals as goal
 
 pub exchange_value_at-requires-clause-at : goal.exchange_value_at-requires-clause-at

@@ -4,7 +4,7 @@ use Rattle.tree_core.specs.Items.{read_assignment, PlainAssignment}
 use Rattle.tree_core.specs.Relvars.{read_relvars, read_entry}
 use Rattle.tree_core.specs.Trees.{read_tree}
 use Rattle.meaning_core.specs.WellMade.{IsTypedFor}
-use Rattle.assign_core.specs.Changes.{Changes, AreChanges}
+use Rattle.relvar_logs.specs.Changes.{Changes, AreChanges}
 use Rattle.assign_core.specs.Insertions.{list_in}
 use Rattle.assign_core.proofs.ChangeLemmas.{none_are}
 use Rattle.assign_core.proofs.InsertionLemmas.{operand_typed, listed_if, fitting_told, stopped_told, cost_told, left_told, meant_told, headed_told}

@@ -1,6 +1,7 @@
 use Rattle.std.proofs.Common.{map, ◌∙◌}
 use Rattle.tree_core.specs.Relvars.{read_entry}
-use Rattle.assign_core.proofs.ChangeLemmas.{same_length, entries_length}
+use Rattle.relvar_logs.proofs.EntryLemmas.{entries_length}
+use Rattle.assign_core.proofs.ChangeLemmas.{same_length}
 use Rattle.assign_core.proofs.preparing.admit.Goals as goal
 
 pub are_few-requires : goal.are_few-requires

@@ -3,7 +3,7 @@ use Rattle.std.proofs.lemmas.Result.{err_from_is_err_and}
 use Rattle.tree_core.specs.Items.{read_assignment}
 use Rattle.tree_core.specs.Relvars.{read_entry}
 use Rattle.assign_core.specs.Assignments.{kept_or_refused, IsRefusedFor}
-use Rattle.assign_core.specs.Changes.{Changes, AreChanges, changed}
+use Rattle.relvar_logs.specs.Changes.{Changes, AreChanges, changed}
 use Rattle.assign_core.specs.Costs.{constraints_cost}
 use Rattle.assign_core.specs.Exchanges.{exchanged_by, ArePrepared}
 use Rattle.assign_core.specs.declared.exchange.Change.{Change}

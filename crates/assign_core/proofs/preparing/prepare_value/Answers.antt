@@ -4,13 +4,14 @@ use Rattle.std.proofs.lemmas.List.{length-replicate}
 use Rattle.std.proofs.lemmas.Result.{err_from_is_err_and}
 use Rattle.tree_core.specs.Relvars.{Entries, base, read_relvars}
 use Rattle.assign_core.specs.Assignments.{kept_or_refused, with_target, IsRefusedFor}
-use Rattle.assign_core.specs.Changes.{Changes, AreChanges, changed}
+use Rattle.relvar_logs.specs.Changes.{Changes, AreChanges, changed}
 use Rattle.assign_core.specs.Costs.{constraints_cost}
 use Rattle.assign_core.specs.Exchanges.{exchanged_by, ArePrepared}
 use Rattle.assign_core.specs.declared.exchange.Change.{Change}
 use Rattle.assign_core.specs.Targets.{entries_before}
 use Rattle.assign_core.proofs.AdditionLemmas.{value_ready}
-use Rattle.assign_core.proofs.ChangeLemmas.{entries_length, none_are, put_change}
+use Rattle.relvar_logs.proofs.EntryLemmas.{entries_length}
+use Rattle.assign_core.proofs.ChangeLemmas.{none_are, put_change}
 use Rattle.assign_core.proofs.InsertionLemmas.{within}
 use Rattle.assign_core.proofs.NameLemmas.{relvars_differ}
 use Rattle.assign_core.proofs.RenewedLemmas.{values_ready}

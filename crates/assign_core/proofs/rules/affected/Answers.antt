@@ -1,7 +1,7 @@
 use Rattle.std.proofs.Common.{◌<◌, [], length, map, sym, ◌∙◌, arith}
 use Rattle.value_core.specs.Values.{Name}
 use Rattle.tree_core.specs.Relvars.{PlainRelvar, base, read_relvars}
-use Rattle.assign_core.proofs.ChangeLemmas.{entries_length}
+use Rattle.relvar_logs.proofs.EntryLemmas.{entries_length}
 use Rattle.assign_core.proofs.LeaningLemmas.{next_affected}
 use Rattle.assign_core.proofs.rules.affected.Goals as goal
 

@@ -1,10 +1,10 @@
 use Rattle.std.proofs.Common.{◌≡◌, [], ◌∷◌, refl, sym, ap, subst, Some}
 use Rattle.tree_core.specs.Relvars.{read_relvars}
 use Rattle.meaning_core.specs.Names.{with_value}
-use Rattle.assign_core.specs.Changes.{IsChange, IsSoAt}
+use Rattle.relvar_logs.specs.Changes.{IsChange, IsSoAt}
 use Rattle.assign_core.specs.Exchanges.{place_of, turned, AreValues, MayTurn}
 use Rattle.assign_core.specs.declared.exchange.Change.{Change}
-use Rattle.assign_core.proofs.ExchangeLemmas.{so_weaker}
+use Rattle.relvar_logs.proofs.EntryLemmas.{so_weaker}
 use Rattle.assign_core.proofs.settling.make_value.Goals as goal
 
 pub returns-in-Value : goal.returns-in-Value

@@ -1,8 +1,9 @@
 use Rattle.std.proofs.Common.{◌≡◌, sym, Some}
 use Rattle.meaning_core.specs.Names.{with_value}
-use Rattle.assign_core.specs.Changes.{IsChange}
+use Rattle.relvar_logs.specs.Changes.{IsChange}
 use Rattle.assign_core.specs.Turnovers.{renewed_relvar, MayExchange}
-use Rattle.assign_core.proofs.ExchangeLemmas.{if_ok_both, not_there, so_put, so_there}
+use Rattle.relvar_logs.proofs.EntryLemmas.{not_there, so_put, so_there}
+use Rattle.assign_core.proofs.ExchangeLemmas.{if_ok_both}
 use Rattle.assign_core.proofs.settling.value_after.Goals as goal
 
 pub new_value-requires : goal.new_value-requires

@@ -5,7 +5,7 @@ use Rattle.tree_core.specs.declared.declaration.Assignment.{Assignment}
 use Rattle.tree_core.specs.Items.{read_assignment}
 use Rattle.tree_core.specs.Relvars.{read_entry}
 use Rattle.assign_core.specs.Assignments.{evaluated}
-use Rattle.assign_core.specs.Changes.{changed}
+use Rattle.relvar_logs.specs.Changes.{changed}
 use Rattle.assign_core.specs.Costs.{source_cost}
 use Rattle.assign_core.proofs.CostLemmas.{sources_left}
 use Rattle.assign_core.proofs.SourceLemmas.{turn_given, turn_failed}

@@ -2,7 +2,7 @@ use Rattle.std.proofs.Common.{◌≡◌, ◌≤◌, ◌+◌, map, take, drop, Ok
 use Rattle.tree_core.specs.Items.{read_assignment}
 use Rattle.tree_core.specs.Relvars.{read_relvars}
 use Rattle.assign_core.specs.Assignments.{evaluated}
-use Rattle.assign_core.specs.Changes.{AreChanges, changed}
+use Rattle.relvar_logs.specs.Changes.{AreChanges, changed}
 use Rattle.assign_core.specs.Costs.{sources_cost}
 use Rattle.assign_core.proofs.sources.evaluate.Given as goal
 

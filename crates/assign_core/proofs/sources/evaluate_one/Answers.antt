@@ -3,9 +3,10 @@ use Rattle.tree_core.specs.Relvars.{read_entry, read_relvars}
 use Rattle.tree_core.specs.Items.{read_assignment}
 use Rattle.meaning_core.proofs.EntryLemmas.{named_first}
 use Rattle.assign_core.specs.Assignments.{source_value}
-use Rattle.assign_core.specs.Changes.{Changes, IsChange, changed}
+use Rattle.relvar_logs.specs.Changes.{Changes, IsChange, changed}
 use Rattle.std.specs.Prelude.{slice_set}
-use Rattle.assign_core.proofs.ChangeLemmas.{same_length, entries_length, is_change, put_change, put_given}
+use Rattle.relvar_logs.proofs.EntryLemmas.{entries_length}
+use Rattle.assign_core.proofs.ChangeLemmas.{same_length, is_change, put_change, put_given}
 use Rattle.assign_core.proofs.NameLemmas.{relvars_differ}
 use Rattle.assign_core.proofs.SourceLemmas.{source_heading, one_given}
 use Rattle.assign_core.proofs.sources.evaluate_one.Goals as goal

@@ -1,7 +1,8 @@
 use Rattle.std.proofs.Common.{map, ◌∙◌}
 use Rattle.tree_core.specs.Relvars.{read_entry}
-use Rattle.assign_core.specs.Changes.{changed}
-use Rattle.assign_core.proofs.ChangeLemmas.{bare_changed, same_length, entries_length}
+use Rattle.relvar_logs.specs.Changes.{changed}
+use Rattle.relvar_logs.proofs.EntryLemmas.{entries_length}
+use Rattle.assign_core.proofs.ChangeLemmas.{bare_changed, same_length}
 use Rattle.assign_core.proofs.SourceLemmas.{newest_given, seen_newest, seen_old, source_told}
 use Rattle.assign_core.proofs.sources.source.Goals as goal
 

@@ -8,7 +8,7 @@ use Rattle.assign_core.specs.Changes.{Tells}
 use Rattle.assign_core.specs.Checks.{AreChecked}
 use Rattle.assign_core.specs.Costs.{looked_at_in}
 use Rattle.assign_core.specs.Turnovers.{after_turnover, before_turnover}
-use Rattle.assign_core.proofs.ChangeLemmas.{entries_length}
+use Rattle.relvar_logs.proofs.EntryLemmas.{entries_length}
 use Rattle.assign_core.proofs.CheckLemmas.{checked_at}
 use Rattle.assign_core.proofs.TurnoverLemmas.{entry_left, entry_after, first_entry}
 use Rattle.assign_core.proofs.TouchLemmas.{held_entry}

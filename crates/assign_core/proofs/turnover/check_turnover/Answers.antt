@@ -3,7 +3,7 @@ use Rattle.std.proofs.lemmas.Result.{err_from_is_err_and}
 use Rattle.value_core.specs.Values.{Name}
 use Rattle.tree_core.specs.Relvars.{PlainRelvar, read_entry, base}
 use Rattle.assign_core.specs.Turnovers.{after_turnover}
-use Rattle.assign_core.proofs.ChangeLemmas.{entries_length}
+use Rattle.relvar_logs.proofs.EntryLemmas.{entries_length}
 use Rattle.assign_core.proofs.CheckLemmas.{relvar_kept, relvar_broken, relvars_kept}
 use Rattle.assign_core.proofs.CostLemmas.{relvar_left, relvars_left}
 use Rattle.assign_core.proofs.TurnoverLemmas.{length_renewed}

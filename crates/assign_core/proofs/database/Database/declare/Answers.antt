@@ -6,6 +6,7 @@ use Rattle.meaning_core.specs.WellMade.{IsWellMade}
 use Rattle.assign_core.specs.Databases.{declared}
 use Rattle.assign_core.proofs.DeclaredLemmas.{declared_kept}
 use Rattle.assign_core.proofs.NameLemmas.{relvars_differ}
+use Rattle.assign_core.proofs.StepLemmas.{declared_step}
 use Rattle.assign_core.proofs.database.Database.declare.Goals as goal
 
 pub append_all-requires : goal.append_all-requires
@@ -15,5 +16,10 @@ append_all-requires c =
 
 pub invariant_of-self : goal.invariant_of-self
 invariant_of-self c =
-    let made = subst (λ (r : Relvars). IsWellMade (declared (read_relvars r) (map read_declaration c.args.list.items))) (sym c.self.view_is) c.requires in
-    (declared_kept (read_relvars c.self.inside.relvars) (read_relvars c.append_all.new.relvars) (map read_declaration c.args.list.items) c.in-Ok.ensures.ok c.self.invariant.0 made, c.no_hashes.ensures.hashed _)
+    let s = read_relvars c.self.inside.relvars in
+    let list = map read_declaration c.args.list.items in
+    let made = subst (λ (r : Relvars). IsWellMade (declared (read_relvars r) list)) (sym c.self.view_is) c.requires in (
+      declared_kept s (read_relvars c.append_all.new.relvars) list c.in-Ok.ensures.ok c.self.invariant.0 made,
+      c.no_hashes.ensures.hashed _,
+      declared_step s (read_relvars c.append_all.new.relvars) list c.in-Ok.ensures.ok c.self.invariant.0.well_made c.self.invariant.2,
+    )

@@ -7,6 +7,7 @@ use Rattle.meaning_core.specs.Declarations.{group, without_group}
 use Rattle.meaning_core.specs.WellMade.{IsWellMade}
 use Rattle.assign_core.proofs.NameLemmas.{relvars_differ, names_of_keys}
 use Rattle.assign_core.proofs.RemovedLemmas.{removed_kept}
+use Rattle.assign_core.proofs.StepLemmas.{removed_step}
 use Rattle.assign_core.proofs.database.Database.remove.Goals as goal
 
 pub drop_group-requires : goal.drop_group-requires
@@ -21,4 +22,8 @@ pub invariant_of-self : goal.invariant_of-self
 invariant_of-self c =
     let s = read_relvars c.self.inside.relvars in
     let made = subst (λ (r : Relvars). IsWellMade (without_group c.args.name.now (read_relvars r))) (sym c.self.view_is) c.requires.well_made in
-    (removed_kept s (read_relvars c.drop_group.new.relvars) (group s.relvars c.args.name.now) c.drop_group.ensures c.self.invariant.0 made, c.no_hashes.ensures.hashed _)
+    let names = group s.relvars c.args.name.now in (
+      removed_kept s (read_relvars c.drop_group.new.relvars) names c.drop_group.ensures c.self.invariant.0 made,
+      c.no_hashes.ensures.hashed _,
+      removed_step s (read_relvars c.drop_group.new.relvars) names c.drop_group.ensures made c.self.invariant.2,
+    )

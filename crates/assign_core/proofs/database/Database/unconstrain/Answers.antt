@@ -25,4 +25,4 @@ returns-clause-state c =
 
 pub invariant_of-self : goal.invariant_of-self
 invariant_of-self c =
-    (subst IsKept (sym (left_is c)) (without_rule_kept (read_relvars c.self.inside.relvars) c.args.name.now c.self.invariant.0), c.self.invariant.1)
+    (subst IsKept (sym (left_is c)) (without_rule_kept (read_relvars c.self.inside.relvars) c.args.name.now c.self.invariant.0), c.self.invariant.1, c.self.invariant.2)

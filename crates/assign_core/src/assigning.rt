@@ -1,0 +1,171 @@
+// Assignments, which are counted where they are done.
+ghost use Rattle.std.specs.Prelude.{◌≡◌, ◌≤◌, ◌<ℤ◌, ◌+◌, ◌+ℤ◌, pos, false, is_ok, map, IfOk, IfErr, Ok};
+ghost use Rattle.std.specs.List.{All};
+ghost use Rattle.point_core.specs.Whole.{greatest_whole};
+ghost use Rattle.tree_core.specs.Items.{read_assignment};
+ghost use Rattle.tree_core.specs.Relvars.{read_relvars, State};
+ghost use Rattle.meaning_core.specs.Declarations.{counted};
+ghost use Rattle.meaning_core.specs.Logs.{has_log, turned_logs, AreInStep};
+ghost use Rattle.meaning_core.specs.Updates.{IsTypedAssignment};
+ghost use Rattle.relvar_logs.specs.Turning.{AreNext};
+ghost use Rattle.assign_core.specs.Arrivals.{way_of};
+ghost use Rattle.assign_core.specs.Assignments.{after_assignments, evaluated, IsAssigned, IsRefusedFor};
+ghost use Rattle.assign_core.specs.Costs.{assignments_cost, cost_of_assignments};
+ghost use Rattle.assign_core.specs.Databases.{IsKept};
+ghost use Rattle.assign_core.specs.Exchanges.{with_ready, IsReady};
+ghost use Rattle.assign_core.specs.Hashed.{AreHashed};
+ghost use Rattle.assign_core.specs.Logs.{counted_if, have_room, is_brought, unless_full};
+ghost use Rattle.assign_core.specs.NewRows.{IsAloneIf, IsFoundIf, IsListFor, IsPaidFor, IsToldOf, StaysUnless, TakesNoneIf};
+
+use crate::exchange::Ready;
+use crate::filling::fill;
+use crate::hashed::Hashed;
+use crate::logs::ready_logs;
+use crate::new_rows::{Coming, bring};
+use crate::preparing::{admit_values, new_values, prepare};
+use crate::settling::settle;
+use log_times::Log;
+use point_core::Steps;
+use relvar_logs::{count, has_log};
+use std::alloc::Global;
+use std::sync::ledger::Ledger;
+use tree_core::{Assignment, Relvars};
+use value_core::{Name, Refuse, Relation};
+
+/// Gives each target the value of its source, all together, and counts the statement; or refuses and changes nothing.
+pub(crate) fn assign<L: Ledger>(
+    alloc: Global,
+    relvars: &mut Relvars,
+    hashed: &mut Hashed,
+    list: &[Assignment],
+    steps: &mut Steps<L>,
+) -> Result<(), Refuse>
+    requires kept { IsKept (read_relvars relvars.old) }
+    requires step { AreInStep (read_relvars relvars.old).accepted (read_relvars relvars.old).relvars }
+    requires room { ((read_relvars relvars.old).accepted +ℤ pos 1) <ℤ greatest_whole }
+    requires hashed { AreHashed hashed.old (read_relvars relvars.old).relvars }
+    requires typed { All (λ a. IsTypedAssignment (read_relvars relvars.old) (read_assignment a)) list.now }
+    ensures assigned { (mid : State) × IsAssigned result (read_relvars relvars.old) mid (map read_assignment list.now) × (read_relvars relvars.new ≡ counted_if (is_ok result) mid) }
+    ensures kept { IsKept (read_relvars relvars.new) }
+    ensures step { AreInStep (read_relvars relvars.new).accepted (read_relvars relvars.new).relvars }
+    ensures hashed { AreHashed hashed.new (read_relvars relvars.new).relvars }
+    ensures cost { steps.new ≤ steps.old + cost_of_assignments (read_relvars relvars.old) (map read_assignment list.now) }
+{
+    if has_log(relvars) {
+        return assign_logged(alloc, relvars, hashed, list, steps);
+    }
+    assign_alone(alloc, relvars, hashed, list, steps)
+}
+
+// Where there is no log.
+fn assign_alone<L: Ledger>(
+    alloc: Global,
+    relvars: &mut Relvars,
+    hashed: &mut Hashed,
+    list: &[Assignment],
+    steps: &mut Steps<L>,
+) -> Result<(), Refuse>
+    requires kept { IsKept (read_relvars relvars.old) }
+    requires alone { has_log (read_relvars relvars.old).relvars ≡ false }
+    requires room { ((read_relvars relvars.old).accepted +ℤ pos 1) <ℤ greatest_whole }
+    requires hashed { AreHashed hashed.old (read_relvars relvars.old).relvars }
+    requires typed { All (λ a. IsTypedAssignment (read_relvars relvars.old) (read_assignment a)) list.now }
+    ensures assigned { (mid : State) × IsAssigned result (read_relvars relvars.old) mid (map read_assignment list.now) × (read_relvars relvars.new ≡ counted_if (is_ok result) mid) }
+    ensures kept { IsKept (read_relvars relvars.new) }
+    ensures step { AreInStep (read_relvars relvars.new).accepted (read_relvars relvars.new).relvars }
+    ensures hashed { AreHashed hashed.new (read_relvars relvars.new).relvars }
+    ensures cost { steps.new ≤ steps.old + cost_of_assignments (read_relvars relvars.old) (map read_assignment list.now) }
+{
+    fill(alloc, list, relvars, hashed)?;
+    let ready = prepare(alloc, list, relvars, hashed, steps)?;
+    settle(alloc, relvars, hashed, ready, steps)?;
+    relvars.accepted += 1;
+    Ok(())
+}
+
+// Where there are logs. Those whose relvars change stand ready before anything does.
+fn assign_logged<L: Ledger>(
+    alloc: Global,
+    relvars: &mut Relvars,
+    hashed: &mut Hashed,
+    list: &[Assignment],
+    steps: &mut Steps<L>,
+) -> Result<(), Refuse>
+    requires kept { IsKept (read_relvars relvars.old) }
+    requires step { AreInStep (read_relvars relvars.old).accepted (read_relvars relvars.old).relvars }
+    requires room { ((read_relvars relvars.old).accepted +ℤ pos 1) <ℤ greatest_whole }
+    requires hashed { AreHashed hashed.old (read_relvars relvars.old).relvars }
+    requires typed { All (λ a. IsTypedAssignment (read_relvars relvars.old) (read_assignment a)) list.now }
+    ensures assigned { (mid : State) × IsAssigned result (read_relvars relvars.old) mid (map read_assignment list.now) × (read_relvars relvars.new ≡ counted_if (is_ok result) mid) }
+    ensures kept { IsKept (read_relvars relvars.new) }
+    ensures step { AreInStep (read_relvars relvars.new).accepted (read_relvars relvars.new).relvars }
+    ensures hashed { AreHashed hashed.new (read_relvars relvars.new).relvars }
+    ensures cost { steps.new ≤ steps.old + cost_of_assignments (read_relvars relvars.old) (map read_assignment list.now) }
+{
+    let (ready, mut next) = prepare_logged(alloc, list, relvars, steps)?;
+    settle(alloc, relvars, hashed, ready, steps)?;
+    count(relvars, &mut next);
+    Ok(())
+}
+
+// What stands ready for all targets, whose values are made whole, and for the logs.
+fn prepare_logged<L: Ledger>(
+    alloc: Global,
+    list: &[Assignment],
+    relvars: &Relvars,
+    steps: &mut Steps<L>,
+) -> Result<(Ready, Vec<Option<Log>>), Refuse>
+    requires kept { IsKept (read_relvars relvars.now) }
+    requires step { AreInStep (read_relvars relvars.now).accepted (read_relvars relvars.now).relvars }
+    requires room { ((read_relvars relvars.now).accepted +ℤ pos 1) <ℤ greatest_whole }
+    requires typed { All (λ a. IsTypedAssignment (read_relvars relvars.now) (read_assignment a)) list.now }
+    ensures ready { IfOk result (λ p. IsReady p.0 (read_relvars relvars.now).relvars) }
+    ensures next { IfOk result (λ p. AreNext (read_relvars relvars.now).accepted (with_ready p.0 (read_relvars relvars.now).relvars) p.1.items (with_ready p.0 (read_relvars relvars.now).relvars)) }
+    ensures meant { IfOk result (λ p. after_assignments (read_relvars relvars.now).relvars (map read_assignment list.now) ≡ Ok (with_ready p.0 (read_relvars relvars.now).relvars)) }
+    ensures full { IfOk result (λ p. unless_full (evaluated (read_relvars relvars.now).relvars (read_relvars relvars.now).relvars (map read_assignment list.now)) (after_assignments (read_relvars relvars.now).relvars (map read_assignment list.now))
+        ≡ after_assignments (read_relvars relvars.now).relvars (map read_assignment list.now)) }
+    ensures refused { IfErr result (λ refuse. IsRefusedFor refuse
+        (unless_full (evaluated (read_relvars relvars.now).relvars (read_relvars relvars.now).relvars (map read_assignment list.now)) (after_assignments (read_relvars relvars.now).relvars (map read_assignment list.now)))) }
+    ensures cost { steps.new ≤ steps.old + assignments_cost (read_relvars relvars.now).relvars (map read_assignment list.now) }
+{
+    let changes = new_values(alloc, list, relvars, steps)?;
+    let next = ready_logs(alloc, relvars, changes.as_slice())?;
+    let ready = admit_values(alloc, relvars, changes, steps)?;
+    Ok((ready, next))
+}
+
+/// Brings rows to a base relvar, and counts the statement. They are left where there is a log.
+pub(crate) fn bring_counted<L: Ledger>(
+    alloc: Global,
+    relvars: &mut Relvars,
+    hashed: &mut Hashed,
+    target: &Name,
+    way: Coming<'_>,
+    rows: Relation,
+    steps: &mut Steps<L>,
+) -> Result<bool, Refuse>
+    requires kept { IsKept (read_relvars relvars.old) }
+    requires step { AreInStep (read_relvars relvars.old).accepted (read_relvars relvars.old).relvars }
+    requires room { ((read_relvars relvars.old).accepted +ℤ pos 1) <ℤ greatest_whole }
+    requires hashed { AreHashed hashed.old (read_relvars relvars.old).relvars }
+    requires listed { IsListFor rows.heading (way_of way) }
+    ensures brought { (mid : State) × IsToldOf (way_of way.entry) result (read_relvars relvars.old) mid target.now rows × (read_relvars relvars.new ≡ counted_if (is_brought result) mid) }
+    ensures found { IsFoundIf result (read_relvars relvars.old) target.now rows.heading }
+    ensures alone { IsAloneIf result (read_relvars relvars.old) }
+    ensures stays { StaysUnless result (read_relvars relvars.old) (read_relvars relvars.new) }
+    ensures none { TakesNoneIf result steps.old steps.new }
+    ensures kept { IsKept (read_relvars relvars.new) }
+    ensures step { AreInStep (read_relvars relvars.new).accepted (read_relvars relvars.new).relvars }
+    ensures hashed { AreHashed hashed.new (read_relvars relvars.new).relvars }
+    ensures cost { IsPaidFor (way_of way.entry) (read_relvars relvars.old) target.now rows steps.old steps.new }
+{
+    if has_log(relvars) {
+        drop(rows);
+        return Ok(false);
+    }
+    let brought = bring(alloc, relvars, hashed, target, way, rows, steps)?;
+    if brought {
+        relvars.accepted += 1;
+    }
+    Ok(brought)
+}

@@ -1,0 +1,4 @@
+pub mod CountLemmas
+pub mod EntryLemmas
+pub mod NextLemmas
+pub mod TurningLemmas
