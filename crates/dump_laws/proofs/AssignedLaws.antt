@@ -1,7 +1,7 @@
 -- Assignments that are performed change values of base relvars alone.
 --     all-typed      what typed items stand for is typed
 --     assigned-rows      the relvars after typed assignments differ in their rows alone
-use Rattle.std.proofs.Common.{◌≡◌, Bool, true, false, cond, nat_le, List, [], ◌∷◌, ◌++◌, map, refl, sym, ap, ap₂, ◌∙◌, subst, Option, Some, None, Result, Ok, Err}
+use Rattle.std.proofs.Common.{◌≡◌, Bool, true, false, cond, nat_le, List, [], ◌∷◌, ◌++◌, map, refl, sym, ap, ap₂, ◌∙◌, subst, Option, Some, None, Ok, Err}
 use Rattle.std.specs.List.{All, AllByRecursion, IsDistinct}
 use Rattle.std.specs.Str.{bytes_eq}
 use Rattle.std.proofs.lemmas.List.Elements.{All-head, All-tail}
@@ -14,7 +14,7 @@ use Rattle.value_core.specs.declared.refuse.Refuse.TheVariants.{Plain, At}
 use Rattle.point_core.specs.declared.fault.Code.TheVariants.{E46}
 use Rattle.value_core.specs.Values.{Name, Relation}
 use Rattle.tree_core.specs.Items.{PlainItemForm, set_to, insert, delete, delete_rows, update, terminate, PlainItem, PlainAssignment}
-use Rattle.tree_core.specs.Relvars.{State, PlainRelvar, Entries, Rules, relvar_named, heading_if}
+use Rattle.tree_core.specs.Relvars.{State, PlainRelvar, Entries, relvar_named, heading_if}
 use Rattle.tree_core.specs.Trees.{heading_of}
 use Rattle.meaning_core.specs.Meanings.{meaning_in}
 use Rattle.meaning_core.specs.Names.{given, with_value}
@@ -29,9 +29,10 @@ use Rattle.update_core.proofs.EndingLemmas.{expanded-meant}
 use Rattle.update_core.proofs.TypedLemmas.{expanded-typed}
 use Rattle.since_during.specs.Joinable.{IsEndingForm}
 use Rattle.since_during.proofs.EndedLemmas.{ended-typed}
-use Rattle.assign_core.specs.Assignments.{seen_by, source_value, with_target, evaluated, unless_broken, kept_or_refused, of_values, after_assignments, unless_rule_broken, assigned_in}
-use Rattle.assign_core.specs.Breaches.{rows_of_all, first_broken, first_rule_broken}
+use Rattle.assign_core.specs.Assignments.{seen_by, source_value, with_target, evaluated, unless_broken, kept_or_refused, of_values, assigned_in}
+use Rattle.assign_core.specs.Breaches.{rows_of_all, first_broken}
 use Rattle.assign_core.specs.Items.{assignments_of}
+use Rattle.assign_core.proofs.LogLemmas.{assigned_after}
 use Rattle.row_typing_laws.proofs.Parts.{parts-of}
 use Rattle.dump_laws.proofs.ListLaws.{distinct-later}
 use Rattle.dump_laws.proofs.NamingLaws.{all-member}
@@ -125,11 +126,7 @@ module _ (s : State) (made : IsWellMade s) where
   from-values (Ok new) last e = ap Ok (few-kept new last e)
   from-values (Err fault) last e = absurd (never-given last (At fault) (Err (At fault)) refl e)
 
-  from-rules : (rules : Rules) (r : Result Entries Refuse) (last : Entries) → unless_rule_broken rules r ≡ Ok last → r ≡ Ok last
-  from-rules rules (Ok new) last e = ap Ok (none-broken new last (first_rule_broken new rules) e)
-  from-rules rules (Err refuse) last e = absurd (never-given last refuse (Err refuse) refl e)
-
   pub assigned-rows : (list : List PlainAssignment) (last : Entries) → All (IsTypedAssignment s) list → assigned_in s list ≡ Ok last → bare_all last ≡ bare_all s.relvars
   assigned-rows list last are e =
       evaluated-rows list s.relvars last are refl
-      (from-values (evaluated s.relvars s.relvars list) last (from-rules s.rules (after_assignments s.relvars list) last e))
+      (from-values (evaluated s.relvars s.relvars list) last (assigned_after s list last e))

@@ -1,6 +1,6 @@
 -- What LOG declares.
 --     log-free      its name is free, and there is room for it
-use Rattle.std.proofs.Common.{◌≡◌, ◌<◌, Bool, false, not, nat_le, length, Ok, refl, ap, ◌∙◌, subst}
+use Rattle.std.proofs.Common.{◌≡◌, ◌<◌, false, not, nat_le, length, Ok, refl, ap, ◌∙◌, subst}
 use Rattle.std.specs.Prelude.{◌-◌, nat_lt}
 use Rattle.std.proofs.lemmas.Bool.{not-true, ltb-true}
 use Rattle.point_core.specs.declared.fault.Code.TheVariants.{E11, E17, E22}

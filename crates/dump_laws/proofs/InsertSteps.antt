@@ -66,7 +66,7 @@ insertion-answered r name heading rows tree old c new plain named found headed r
     let done = plain-done r Adding name heading rows tree old c plain named found headed relation in
     let assigned : assigned_in r (assignments_of r.relvars done.items) ≡ Ok new =
     ap (assigned_in r) done.meant
-    ∙ (brought_assigned r done.assignment (joining None) done.at done.there old rows done.source
+    ∙ (brought_assigned r done.assignment (joining None) done.at done.there old rows done.source logless
     ∙ (ap (λ (target : Name). brought_in r (joining None) done.at done.there target old rows) done.target ∙ comes done.at done.there)) in
     ap (unless_fault (of_checked r)) done.typed ∙ ap (unless_refused r) assigned
 

@@ -8,11 +8,11 @@ use Rattle.std.specs.List.{All, AllByRecursion, IsDistinct}
 use Rattle.std.proofs.lemmas.Bool.{not-true, leb-true}
 use Rattle.std.proofs.lemmas.List.Elements.{All-nil}
 use Rattle.base_core.proofs.ListLemmas.{All-In}
-use Rattle.point_core.specs.declared.fault.Code.TheVariants.{E10, E21, E45}
+use Rattle.point_core.specs.declared.fault.Code.TheVariants.{E10, E21, E45, E46}
 use Rattle.point_core.specs.declared.fault.Place.{Place}
 use Rattle.point_core.specs.Faults.{OrFault}
 use Rattle.value_core.specs.declared.refuse.Refuse.{Refuse}
-use Rattle.value_core.specs.declared.refuse.Refuse.TheVariants.{Broken}
+use Rattle.value_core.specs.declared.refuse.Refuse.TheVariants.{Broken, Plain as PlainRefusal}
 use Rattle.value_core.specs.Limits.{most_statement_bytes}
 use Rattle.value_core.specs.Values.{Name, Relation}
 use Rattle.utd_syntax.specs.Plain as syntax
@@ -28,6 +28,7 @@ use Rattle.dump_core.specs.declared.texts.TextKind.{TextKind}
 use Rattle.dump_core.specs.declared.texts.TextKind.TheVariants.{Early, Rule}
 use Rattle.dump_core.specs.Texts.{SourceText, forgotten}
 use Rattle.meaning_core.specs.Declarations.{group, without_group, without_rule, with_rule, with_log}
+use Rattle.meaning_core.specs.Logs.{turned_logs}
 use Rattle.meaning_core.specs.Truths.{holds_in, truth_in}
 use Rattle.meaning_core.specs.Updates.{IsTypedItem}
 use Rattle.meaning_core.specs.WellMade.{IsWellMade}
@@ -50,6 +51,7 @@ use Rattle.typing_laws.proofs.SayingLaws.{checked-says}
 use Rattle.assign_core.specs.Assignments.{assigned_in}
 use Rattle.assign_core.specs.Databases.{no_relvars}
 use Rattle.assign_core.specs.Items.{assignments_of}
+use Rattle.assign_core.specs.Logs.{have_room}
 use Rattle.utd_statement.specs.Answers.{Answer, Done, Changed, made_by, Table, Truth, Refusal, unless_fault, relation_in, unless_refused, if_allowed, of_checked, of_tree, answer, is_accepted, state_after}
 use Rattle.utd_statement.specs.Keeping.{Keeping, Keeps, Forgets, Leaves, kind_of, keeping_of, settled}
 use Rattle.utd_statement.specs.Readings.{Reading, Refused, IsText}
@@ -166,7 +168,7 @@ module _ (w : State) (texts : List SourceText) (ds : List Said) (is : IsStanding
 
   logged-kept : (bytes : List ℕ) (l source t : Word) (r : OrFault LogData) → log_declared w l source t ≡ r → IfOk (giving declare_log r) (IsTypedPlain w)
       → IsKeptBy w texts Leaves bytes (unless_fault (of_checked w) (giving declare_log r))
-  logged-kept bytes l source t (Ok d) e typed = opened-kept bytes l source t d e typed.made true (Broken E45 d.name 0)
+  logged-kept bytes l source t (Ok d) e typed = opened-kept bytes l source t d e typed.made (have_room (turned_logs (with_log w d).relvars)) (PlainRefusal E46)
   logged-kept bytes l source t (Err fault) e typed = (ds, is)
 
   -- ---- declarations

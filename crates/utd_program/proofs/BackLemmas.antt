@@ -1,9 +1,8 @@
 -- What is written of a database gives it back.
 --     sound      what is known of a database whose dump was made
---     no_dump_no_end, refused_no_end, memory_no_end, may_no_end      where there is no dump, the status is none of a script that was read to its end
+--     no_dump_no_end, memory_no_end, may_no_end      where there is no dump, the status is none of a script that was read to its end
 --     may_give_back      the dump of a run, whatever its source tells
-use Rattle.std.proofs.Common.{◌≡◌, ◌≤◌, ◌⊎◌, inl, inr, ℕ, List, [], length, Option, Some, None, IfSome, refl, sym, ap, ◌∙◌, subst, arith}
-use Rattle.utd_io.specs.Io.{Gains}
+use Rattle.std.proofs.Common.{◌≡◌, ◌≤◌, inl, inr, ℕ, List, Option, Some, None, IfSome, refl, sym, ap, ◌∙◌, subst, arith}
 use Rattle.tree_core.specs.Relvars.{State, read_relvars}
 use Rattle.tree_core.specs.declared.relvar.Relvars.{Relvars as Database}
 use Rattle.dump_core.specs.declared.refuse.DumpRefuse.{DumpRefuse}
@@ -14,11 +13,9 @@ use Rattle.assign_core.specs.Databases.{IsKept}
 use Rattle.utd_session.specs.declared.status.Status.{Status}
 use Rattle.utd_session.specs.declared.status.Status.TheVariants.{WriteFailed, NoMemory, CannotDump}
 use Rattle.utd_session.specs.Status.{number_of}
-use Rattle.utd_session.specs.Statements.{statements_within}
 use Rattle.utd_session.specs.Databases.{state_of}
-use Rattle.utd_session.specs.Machine.{Step}
 use Rattle.utd_session.specs.Texts.{AreTextsOf}
-use Rattle.utd_session.specs.Run.{IsAfter, IsRun}
+use Rattle.utd_session.specs.Run.{IsRun}
 use Rattle.utd_session.specs.Ends.{IsAtEnd, HasTextsAtEnd}
 use Rattle.utd_session.specs.Dumped.{dump_in, EndsDump, IsWritten}
 use Rattle.utd_session.proofs.EndLemmas.{not_at_end}
@@ -44,9 +41,6 @@ other_status result status is far at_end = not_at_end (number_of status) far (su
 pub no_dump_no_end : (refuse : DumpRefuse) (result : Status) → (refuse ≡ TooLong → result ≡ CannotDump) → (refuse ≡ Memory → result ≡ NoMemory) → IsAtEnd (number_of result) → ⊥
 no_dump_no_end TooLong result long memory at_end = other_status result CannotDump (long refl) (omega arith) at_end
 no_dump_no_end Memory result long memory at_end = other_status result NoMemory (memory refl) (omega arith) at_end
-
-pub refused_no_end : IsAtEnd (number_of CannotDump) → ⊥
-refused_no_end at_end = not_at_end 7 (omega arith) at_end
 
 -- ---- where there is one
 

@@ -1,5 +1,5 @@
 -- What a run leaves whose dump is asked for.
---     dump_logged, dump_logless, dump_given      what is dumped where a log is declared, and where none is
+--     dump_logless, dump_given      what is dumped where no log is declared, and that none is where something is dumped
 use Rattle.std.proofs.Common.{◌≡◌, ◌⊎◌, inl, inr, ℕ, ◌+◌, ◌<◌, ◌≤◌, Bool, true, false, cond, List, [], length, take, Option, Some, None, IfSome, refl, sym, ap, ◌∙◌, subst, arith, le_refl, length-append}
 use Rattle.std.proofs.lemmas.List.{drop_all}
 use Rattle.utd_io.specs.Io.{Rose}
@@ -23,10 +23,7 @@ use Rattle.utd_session.proofs.StatementLemmas.{by_le, not_le, within_prefix}
 use Rattle.utd_session.proofs.RunLemmas.{ends_at_5, by_answer}
 use Rattle.utd_session.proofs.EndLemmas.{not_at_end}
 
--- ---- whether a log is declared
-
-pub dump_logged : (texts : List SourceText) (state : State) → has_log state.relvars ≡ true → dump_in texts state ≡ None
-dump_logged texts state is = ap (λ b. cond b None (script_of texts state)) is
+-- ---- where no log is declared
 
 pub dump_logless : (texts : List SourceText) (state : State) → has_log state.relvars ≡ false → dump_in texts state ≡ script_of texts state
 dump_logless texts state none = ap (λ b. cond b None (script_of texts state)) none
