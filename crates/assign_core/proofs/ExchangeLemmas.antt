@@ -6,7 +6,6 @@
 use Rattle.std.proofs.Common.{◌≡◌, ◌≢◌, ℕ, zero, suc, ◌+◌, ◌<◌, ◌≤◌, List, [], ◌∷◌, map, take, drop, set, get_or, length, refl, sym, ap, ap₂, subst, ◌∙◌, arith, Option, Result, Ok, Err, Some, None}
 use Rattle.std.proofs.lemmas.List.{drop-set}
 use Rattle.std.specs.Prelude.{slice_get, IfOk}
-use Rattle.indexmap.specs.IndexMap.{set_value_at}
 use Rattle.value_core.specs.Values.{Name, Relation}
 use Rattle.relation_core.proofs.FilterLemmas.{head_of}
 use Rattle.tree_core.specs.declared.relvar.Relvar.{Relvar}

@@ -18,12 +18,9 @@ use Rattle.std.specs.List.{All, HoldsAt, insert, remove, list_all, position, pos
 use Rattle.std.specs.Bool.{IsTrue}
 use Rattle.indexmap.specs.IndexMap.{set_value_at}
 use Rattle.value_core.specs.declared.constraint.Constraint.{Constraint}
-use Rattle.value_core.specs.Values.{Name, Row, Heading, Relation, IsRelation, fits_heading, most_rows}
-use Rattle.value_core.proofs.PlacingLemmas.{grown_relation}
-use Rattle.relation_core.specs.Operators.{united}
+use Rattle.value_core.specs.Values.{Name, Row, Heading, Relation, IsRelation, fits_heading}
 use Rattle.relation_core.proofs.AgreementLemmas.{length_of_fit}
 use Rattle.relation_core.proofs.FilterLemmas.{passes_at}
-use Rattle.u_constraints.specs.Growth.{exchanged}
 use Rattle.relation_core.specs.Hashes.{HashList, AreHashesOf, hash_of}
 use Rattle.tree_core.specs.declared.relvar.Relvar.{Relvar}
 use Rattle.tree_core.specs.Relvars.{PlainRelvar, base, view, Entries, read_entry, read_relvar, log}
@@ -31,7 +28,6 @@ use Rattle.meaning_core.specs.Names.{IsFirstAt}
 use Rattle.assign_core.specs.declared.hashed.Hashed.{Hashed}
 use Rattle.assign_core.specs.declared.hashed.HashedRelvar.{HashedRelvar}
 use Rattle.assign_core.specs.Hashed.{IsHashesOf, AreHashesIn, AreHashesAt, IsHashed, AreHashed, IsUnmarkedAt}
-use Rattle.assign_core.proofs.RemovalLemmas.{fewer_relation}
 
 -- ---- one row
 

@@ -1,7 +1,7 @@
 -- Rows that are held, among which others are put.
 --     held_relation      there is a relation again afterwards
 --     few_in, many_in      the rows are those after the exchange
-use Rattle.std.proofs.Common.{◌≡◌, List, ap, sym, subst, ◌∙◌, drop}
+use Rattle.std.proofs.Common.{◌≡◌, List, sym, subst, ◌∙◌, drop}
 use Rattle.value_core.specs.Values.{Row, Relation, IsRelation}
 use Rattle.value_core.proofs.PlacingLemmas.{grown_relation}
 use Rattle.relation_core.specs.Operators.{subtracted, united}

@@ -5,7 +5,7 @@
 --     refused_full      why assignments are refused before the database constraints are asked
 --     next_changed, rows_changed      logs beside new values
 use Rattle.std.proofs.Common.{◌≡◌, ℕ, zero, suc, ◌+◌, ◌-◌, ◌<◌, ◌≤◌, ℤ, pos, ◌+ℤ◌, Bool, true, false, cond, nat_le, List, [], ◌∷◌, ◌++◌, map, length, refl, sym, ap, ◌∙◌, subst, arith, true≢false, Option, Some, None, Result, Ok, Err}
-use Rattle.std.specs.Prelude.{◌&&◌, ◌||◌}
+use Rattle.std.specs.Prelude.{◌&&◌, ◌||◌, is_ok}
 use Rattle.std.specs.List.{All}
 use Rattle.std.specs.Str.{bytes_eq}
 use Rattle.std.proofs.lemmas.Bool.{or_parts}
@@ -29,26 +29,29 @@ use Rattle.tree_core.specs.Items.{PlainAssignment}
 use Rattle.tree_core.specs.Relvars.{PlainRelvar, base, view, log, Entries, Rules, State, relvar_named, heading_if}
 use Rattle.tree_core.specs.Uses.{test_names_any}
 use Rattle.meaning_core.specs.Declarations.{counted, with_log}
-use Rattle.meaning_core.specs.Logs.{is_log, has_log, new_log, over_log, turned_relvar, turned_logs, IsInStep, AreInStep}
-use Rattle.meaning_core.specs.Names.{given, given_entry, given_relvar, with_value}
+use Rattle.meaning_core.specs.Logs.{is_log, has_log, new_log, over_log, turned_relvar, turned_logs, IsInStep}
+use Rattle.meaning_core.specs.Names.{given, given_relvar, with_value}
 use Rattle.meaning_core.specs.Truths.{holds_in, is_held}
-use Rattle.meaning_core.specs.Typing.{IsTypedTest}
-use Rattle.meaning_core.specs.WellMade.{IsWellMade, headings_of, sizes_of}
+use Rattle.meaning_core.specs.WellMade.{IsWellMade, sizes_of}
 use Rattle.meaning_core.proofs.AcceptedLemmas.{made-turned}
 use Rattle.meaning_core.proofs.LogLemmas.{truth-turned, turned-none}
 use Rattle.meaning_core.proofs.RowlessLemmas.{bare, bare_all}
 use Rattle.u_constraints.specs.Constraints.{names_relvar, rows_or_none}
 use Rattle.relation_core.specs.Hashes.{HashList}
-use Rattle.relvar_logs.specs.Changes.{Changes, IsChange, AreChanges, changed_relvar, changed}
+use Rattle.relvar_logs.specs.Changes.{Changes, changed_relvar, changed}
 use Rattle.relvar_logs.specs.Room.{are_each_few, left_of, log_count, rows_of_logs}
 use Rattle.relvar_logs.specs.Turning.{IsNext, AreNext, IsFull}
-use Rattle.assign_core.specs.Assignments.{seen_by, source_value, with_target, evaluated, unless_broken, kept_or_refused, of_values, after_assignments, unless_rule_broken, assigned_in, IsRefusedFor}
+use Rattle.assign_core.specs.Assignments.{source_value, with_target, evaluated, unless_broken, kept_or_refused, of_values, after_assignments, unless_rule_broken, assigned_in, IsDone, IsRefusedFor}
 use Rattle.assign_core.specs.Breaches.{value_of, value_if, value_at, or_later, rows_of_all, rows_named, first_in, first_among, first_broken, first_rule_broken}
-use Rattle.assign_core.specs.Databases.{IsKept}
+use Rattle.assign_core.specs.Databases.{IsKept, IsSettled}
 use Rattle.assign_core.specs.declared.hashed.Hashed.{Hashed}
 use Rattle.assign_core.specs.Hashed.{AreHashed, AreHashesAt, AreHashesIn}
-use Rattle.assign_core.specs.Logs.{have_room, if_room, unless_full}
+use Rattle.assign_core.specs.Exchanges.{with_ready, IsReady}
+use Rattle.assign_core.specs.declared.exchange.Ready.{Ready}
+use Rattle.relvar_logs.specs.Opening.{logs_fit, IsOpenedIn}
+use Rattle.assign_core.specs.Logs.{counted_if, have_room, if_room, opened, unless_full, KeepsLogs}
 use Rattle.assign_core.proofs.DeclaredLemmas.{kept_more, rows_of_both, rules_stay, same_among}
+use Rattle.assign_core.proofs.RenewedLemmas.{bare_exchanged}
 
 -- ---- logs that are turned
 
@@ -352,10 +355,10 @@ no_room_refused new e = not-room new e
 
 -- ---- what is refused of assignments, with logs
 
-pub fault_full : (es last : Entries) (list : List PlainAssignment) (stop : Stop) → Gives (λ (done : List (Option Relation)). last) (Err stop) (evaluated es es list)
+pub fault_full : {V : Type 0} (read : V → Entries) (es : Entries) (list : List PlainAssignment) (stop : Stop) → Gives read (Err stop) (evaluated es es list)
     → IsRefusedFor (refusal_of stop) (unless_full (evaluated es es list) (after_assignments es list))
-fault_full es last list (Faulted f) told = ap (λ (r : OrFault Entries). unless_full r (of_values r)) told
-fault_full es last list OfMemory told = tt
+fault_full read es list (Faulted f) told = ap (λ (r : OrFault Entries). unless_full r (of_values r)) told
+fault_full read es list OfMemory told = tt
 
 room-refused : (refuse : Refuse) (new : Entries) (meant : Result Entries Refuse) (b : Bool) → IsRefusedFor refuse (cond b (Ok new) (Err (Plain E46))) → IsRefusedFor refuse (cond b meant (Err (Plain E46)))
 room-refused (Plain code) new meant true h = absurd (cc)
@@ -392,3 +395,58 @@ hashes-turned all (suc i) ms (e ∷ es) h = hashes-turned all i ms es h
 
 pub hashed_turned : (m : Hashed) (es : Entries) → AreHashed m es → AreHashed m (turned_logs es)
 hashed_turned m es h k d l = hashes-turned es _ _ es (h k d l)
+
+-- ---- faults of sources
+
+pub fault_given : {V : Type 0} (read : V → Entries) (es start last : Entries) (list : List PlainAssignment) (stop : Stop) → evaluated es start list ≡ evaluated es es list
+    → Gives (λ (done : Unit {0}). last) (Err stop) (evaluated es start list) → Gives read (Err stop) (evaluated es es list)
+fault_given read es start last list (Faulted f) same told = sym same ∙ told
+fault_given read es start last list OfMemory same told = tt
+
+-- ---- what is settled
+
+-- logs stay, and the number of accepted statements
+pub settled_logs : (result : Result (Unit {0}) Refuse) (s now : State) (r : Ready) → IsReady r s.relvars → IsSettled result s now (with_ready r s.relvars) → KeepsLogs s now
+settled_logs (Ok done) s now r ready told =
+    (ap (λ (t : State). has_log t.relvars) told.1 ∙ logs_alike (with_ready r s.relvars) s.relvars (bare_exchanged r.changes.items s.relvars ready), ap (λ (t : State). t.accepted) told.1)
+settled_logs (Err refuse) s now r ready told = (ap (λ (t : State). has_log t.relvars) told.1, ap (λ (t : State). t.accepted) told.1)
+
+pub stays_logs : (s now : State) → now ≡ s → KeepsLogs s now
+stays_logs s now e = (ap (λ (t : State). has_log t.relvars) e, ap (λ (t : State). t.accepted) e)
+
+-- ---- nothing stands ready
+
+pub none_ready : (n : ℤ) (all es : Entries) → All (λ r. IsInStep n all r.1) es → AreNext n all [] es
+none_ready n all [] h = tt
+none_ready n all (e ∷ es) h = (one e.1 (All-head (λ r. IsInStep n all r.1) e es h), none_ready n all es (All-tail (λ r. IsInStep n all r.1) e es h))
+  where
+    one : (r : PlainRelvar) → IsInStep n all r → IsNext n all None r
+    one (base value constraints) k = tt
+    one (view t history) k = tt
+    one (log of side last w) k = k
+
+-- ---- a log that is opened
+
+fit-same : (rows : ℕ) (s : State) (d : LogData) → rows ≡ rows_of_all s.relvars → have_room (turned_logs (with_log s d).relvars) ≡ logs_fit rows (turned_logs (with_log s d).relvars)
+fit-same rows s d e =
+    let more : Entries = (d.name, new_log (heading_if (relvar_named s.relvars d.of)) s.accepted d) ∷ [] in
+    let logs : Entries = turned_logs (s.relvars ++ more) in
+    let same : rows_of_all logs ≡ rows = let turn = rows_turned (s.relvars ++ more) in let both = rows_of_both s.relvars more in omega (arith, turn, both, e) in
+    ap (λ (n : ℕ). nat_le (n + rows_of_logs logs) most_rows_in_all && are_each_few logs) same
+
+pub opened_done : (rows : ℕ) (result : Result (Unit {0}) Refuse) (s new : State) (d : LogData) → rows ≡ rows_of_all s.relvars → IsOpenedIn rows result s new d
+    → (mid : State) × IsDone result s mid (opened s d) × (new ≡ counted_if (is_ok result) mid)
+opened_done rows (Ok done) s new d e h =
+    (with_log s d, ap (λ (b : Bool). cond b (Ok (with_log s d)) (Err (Plain E46))) (fit-same rows s d e ∙ h.0), h.1)
+opened_done rows (Err (Plain code)) s new d e h =
+    (s, (ap (λ (b : Bool). cond b (Ok (with_log s d)) (Err (Plain E46))) (fit-same rows s d e ∙ h.1) ∙ ap (λ c. Err (Plain c)) (sym h.0), refl), h.2)
+opened_done rows (Err (At fault)) s new d e h = absurd h
+opened_done rows (Err (Broken code relvar number)) s new d e h = absurd h
+opened_done rows (Err Memory) s new d e h = (s, (tt, refl), h)
+
+pub opened_kept : (rows : ℕ) (result : Result (Unit {0}) Refuse) (s new : State) (d : LogData) → IsKept s → IsWellMade (with_log s d) → IsOpenedIn rows result s new d → IsKept new
+opened_kept rows (Ok done) s new d kept made h = subst IsKept (sym h.1) (turned_kept (with_log s d) (log_kept s d kept made))
+opened_kept rows (Err (Plain code)) s new d kept made h = subst IsKept (sym h.2) kept
+opened_kept rows (Err (At fault)) s new d kept made h = absurd h
+opened_kept rows (Err (Broken code relvar number)) s new d kept made h = absurd h
+opened_kept rows (Err Memory) s new d kept made h = subst IsKept (sym h) kept

@@ -12,9 +12,9 @@ use Rattle.std.specs.List.Sorted.{IsStrictlySortedBy}
 use Rattle.std.specs.Ordering.{ordering_reverse}
 use Rattle.base_core.proofs.SetLemmas.{In, AllAfter, Ascends, Ascends-from_sorted}
 use Rattle.base_core.proofs.SetOperatorLemmas.{AllAfter-In}
-use Rattle.value_core.specs.Values.{Row, Relation, row_cmp, most_rows, IsRelation}
+use Rattle.value_core.specs.Values.{Row, row_cmp}
 use Rattle.value_core.specs.Order.{row_total}
-use Rattle.value_core.proofs.PlacingLemmas.{grown_relation, union_none}
+use Rattle.value_core.proofs.PlacingLemmas.{union_none}
 use Rattle.value_core.proofs.RelationLemmas.{sorted_from_ascending}
 use Rattle.relation_core.specs.Operators.{united}
 use Rattle.relation_core.proofs.FilterLemmas.{Ascends-drop, ended, head_of, take_all}

@@ -2,7 +2,7 @@
 --     bare_exchanged      the relvars differ in their rows alone
 --     settled_kept, settled_made, settled_keeps      the state with the new relvars
 --     values_ready      new values, as changes at their places
-use Rattle.std.proofs.Common.{◌≡◌, ◌≢◌, ℕ, zero, suc, ◌+◌, ◌<◌, ◌≤◌, drop, set, get_or, List, [], ◌∷◌, ◌++◌, length, refl, sym, ap, ap₂, subst, ◌∙◌, arith, Option, Some, None, Result, Ok, Err}
+use Rattle.std.proofs.Common.{◌≡◌, ℕ, zero, suc, ◌+◌, ◌<◌, ◌≤◌, drop, set, get_or, List, [], ◌∷◌, ◌++◌, length, refl, sym, ap, subst, ◌∙◌, arith, Option, Some, None, Result, Ok, Err}
 use Rattle.std.proofs.lemmas.List.{append_assoc, append-nil, drop-set-lt}
 use Rattle.value_core.specs.declared.refuse.Refuse.{Refuse}
 use Rattle.value_core.specs.Values.{Name, Relation}
@@ -38,7 +38,7 @@ bare_turned [] i c h = absurd h
 bare_turned (e ∷ es) zero c h = ap (λ (x : PlainRelvar). (e.0, x) ∷ bare_all es) (bare_change c e.1 h)
 bare_turned (e ∷ es) (suc i) c h = ap (λ (z : Entries). (e.0, bare e.1) ∷ z) (bare_turned es i c h)
 
-bare_exchanged : (cs : List Change) (es : Entries) → ArePrepared cs es → bare_all (exchanged_by cs es) ≡ bare_all es
+pub bare_exchanged : (cs : List Change) (es : Entries) → ArePrepared cs es → bare_all (exchanged_by cs es) ≡ bare_all es
 bare_exchanged [] es h = refl
 bare_exchanged (c ∷ cs) es h = bare_turned (exchanged_by cs es) (place_of c) c (so_exchanged cs es (place_of c) (MayTurn c) h.1 h.0) ∙ bare_exchanged cs es h.2
 

@@ -1,9 +1,8 @@
 -- Logs stay in step where their relvars keep their rows.
 --     step_more, step_left      among more entries, and among those that are left
 --     declared_step, removed_step, stays_in_step      where something is declared, or dropped, and where nothing changes
-use Rattle.std.proofs.Common.{◌≡◌, ℕ, zero, suc, ◌<◌, ℤ, Bool, true, false, not, cond, List, [], ◌∷◌, ◌++◌, map, filter, length, refl, sym, ap, ◌∙◌, subst, true≢false, Option, Some, None, Result, Ok, Err}
+use Rattle.std.proofs.Common.{◌≡◌, ℕ, zero, suc, ◌<◌, ℤ, Bool, true, false, cond, List, [], ◌∷◌, ◌++◌, length, refl, sym, ap, ◌∙◌, subst, Some, None, Result, Ok, Err}
 use Rattle.std.specs.List.{All}
-use Rattle.std.specs.Str.{bytes_eq}
 use Rattle.std.proofs.lemmas.List.Elements.{All-append, All-cons, All-head, All-tail}
 use Rattle.point_core.specs.declared.fault.Code.TheVariants.{E45}
 use Rattle.value_core.specs.declared.refuse.Refuse.{Refuse}
@@ -16,7 +15,7 @@ use Rattle.meaning_core.specs.Declarations.{PlainDeclaration, ordinal_type, base
 use Rattle.meaning_core.specs.Logs.{has_log, base_rows, IsInStep, AreInStep}
 use Rattle.meaning_core.specs.Truths.{holds_in}
 use Rattle.meaning_core.specs.WellMade.{IsBase, IsWellMade, sizes_of}
-use Rattle.meaning_core.proofs.ElsewhereLemmas.{left, left-kept, left-gone, apart-some, some-apart, named-left}
+use Rattle.meaning_core.proofs.ElsewhereLemmas.{left, left-kept, left-gone, apart-some, named-left}
 use Rattle.relvar_logs.specs.Changes.{IsSoAt}
 use Rattle.relvar_logs.specs.Turning.{IsOfBase}
 use Rattle.relvar_logs.proofs.NextLemmas.{base_before, of_base_there, all_so}

@@ -24,7 +24,6 @@ use Rattle.relation_core.specs.Operators.{united, subtracted}
 use Rattle.relation_core.proofs.FilterLemmas.{filter_all}
 use Rattle.relation_core.proofs.ApartLemmas.{length_apart, Apart-append, apart_ascending}
 use Rattle.tree_core.specs.declared.relvar.Relvar.{Relvar}
-use Rattle.indexmap.specs.IndexMap.{set_value_at}
 use Rattle.tree_core.specs.Relvars.{PlainRelvar, base, Entries, relvar_named, heading_if, read_entry, read_relvar}
 use Rattle.meaning_core.specs.Names.{IsFirstAt, given, with_value}
 use Rattle.meaning_core.proofs.MadeLemmas.{same_name}

@@ -2,12 +2,11 @@
 --     Tells      nothing is broken, or what is told is the first that is
 --     value_or      the value of a base relvar
 --     value_there      the value of the base relvar at a place
-use Rattle.std.specs.Prelude.{◌≡◌, ℕ, zero, suc, List, [], ◌∷◌, Option, Some, None, Result, Ok, Err}
+use Rattle.std.specs.Prelude.{◌≡◌, ℕ, zero, suc, [], ◌∷◌, Option, Some, None, Result, Ok, Err}
 use Rattle.value_core.specs.declared.refuse.Refuse.{Refuse}
 use Rattle.value_core.specs.declared.refuse.Refuse.TheVariants.{Plain, At, Broken, Memory}
 use Rattle.value_core.specs.Values.{Relation}
 use Rattle.tree_core.specs.Relvars.{PlainRelvar, base, view, Entries, log}
-use Rattle.meaning_core.specs.Names.{with_value}
 
 -- nothing is broken, or what is told is the first that is
 abbrev pub Tells : Result (Unit {0}) Refuse → Option Refuse → Type 0

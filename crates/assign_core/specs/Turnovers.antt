@@ -3,7 +3,7 @@
 --     IsTurnover      what is asked of an exchange that stands ready for a base relvar
 --     after_turnover      the relvars after it
 --     IsKnown      what is known of the rows before it and after it
-use Rattle.std.specs.Prelude.{◌≡◌, ℕ, zero, suc, ◌+◌, ◌≤◌, Bool, false, List, [], ◌∷◌, length, Option, Some, None, option_map, IfSome, if◌then◌else◌}
+use Rattle.std.specs.Prelude.{◌≡◌, ℕ, ◌+◌, ◌≤◌, Bool, false, List, length, Option, Some, None, option_map, IfSome, if◌then◌else◌}
 use Rattle.std.specs.List.{All}
 use Rattle.std.specs.Str.{bytes_eq}
 use Rattle.value_core.specs.RowPacking.{packed}

@@ -5,7 +5,7 @@ ghost use Rattle.point_core.specs.Whole.{greatest_whole};
 ghost use Rattle.tree_core.specs.Items.{read_assignment};
 ghost use Rattle.tree_core.specs.Relvars.{read_relvars, State};
 ghost use Rattle.meaning_core.specs.Declarations.{counted};
-ghost use Rattle.meaning_core.specs.Logs.{has_log, turned_logs, AreInStep};
+ghost use Rattle.meaning_core.specs.Logs.{has_log, AreInStep};
 ghost use Rattle.meaning_core.specs.Updates.{IsTypedAssignment};
 ghost use Rattle.relvar_logs.specs.Turning.{AreNext};
 ghost use Rattle.assign_core.specs.Arrivals.{way_of};
@@ -14,7 +14,7 @@ ghost use Rattle.assign_core.specs.Costs.{assignments_cost, cost_of_assignments}
 ghost use Rattle.assign_core.specs.Databases.{IsKept};
 ghost use Rattle.assign_core.specs.Exchanges.{with_ready, IsReady};
 ghost use Rattle.assign_core.specs.Hashed.{AreHashed};
-ghost use Rattle.assign_core.specs.Logs.{counted_if, have_room, is_brought, unless_full};
+ghost use Rattle.assign_core.specs.Logs.{counted_if, is_brought, unless_full, IsRoomFor};
 ghost use Rattle.assign_core.specs.NewRows.{IsAloneIf, IsFoundIf, IsListFor, IsPaidFor, IsToldOf, StaysUnless, TakesNoneIf};
 
 use crate::exchange::Ready;
@@ -79,7 +79,7 @@ fn assign_alone<L: Ledger>(
     fill(alloc, list, relvars, hashed)?;
     let ready = prepare(alloc, list, relvars, hashed, steps)?;
     settle(alloc, relvars, hashed, ready, steps)?;
-    relvars.accepted += 1;
+    count_alone(relvars);
     Ok(())
 }
 
@@ -122,8 +122,7 @@ fn prepare_logged<L: Ledger>(
     ensures ready { IfOk result (λ p. IsReady p.0 (read_relvars relvars.now).relvars) }
     ensures next { IfOk result (λ p. AreNext (read_relvars relvars.now).accepted (with_ready p.0 (read_relvars relvars.now).relvars) p.1.items (with_ready p.0 (read_relvars relvars.now).relvars)) }
     ensures meant { IfOk result (λ p. after_assignments (read_relvars relvars.now).relvars (map read_assignment list.now) ≡ Ok (with_ready p.0 (read_relvars relvars.now).relvars)) }
-    ensures full { IfOk result (λ p. unless_full (evaluated (read_relvars relvars.now).relvars (read_relvars relvars.now).relvars (map read_assignment list.now)) (after_assignments (read_relvars relvars.now).relvars (map read_assignment list.now))
-        ≡ after_assignments (read_relvars relvars.now).relvars (map read_assignment list.now)) }
+    ensures full { IfOk result (λ p. IsRoomFor (evaluated (read_relvars relvars.now).relvars (read_relvars relvars.now).relvars (map read_assignment list.now))) }
     ensures refused { IfErr result (λ refuse. IsRefusedFor refuse
         (unless_full (evaluated (read_relvars relvars.now).relvars (read_relvars relvars.now).relvars (map read_assignment list.now)) (after_assignments (read_relvars relvars.now).relvars (map read_assignment list.now)))) }
     ensures cost { steps.new ≤ steps.old + assignments_cost (read_relvars relvars.now).relvars (map read_assignment list.now) }
@@ -163,9 +162,23 @@ pub(crate) fn bring_counted<L: Ledger>(
         drop(rows);
         return Ok(false);
     }
-    let brought = bring(alloc, relvars, hashed, target, way, rows, steps)?;
-    if brought {
-        relvars.accepted += 1;
+    match bring(alloc, relvars, hashed, target, way, rows, steps) {
+        Ok(true) => {
+            count_alone(relvars);
+            Ok(true)
+        }
+        Ok(false) => Ok(false),
+        Err(refuse) => Err(refuse),
     }
-    Ok(brought)
+}
+
+/// Counts a statement where there is no log.
+pub(crate) fn count_alone(relvars: &mut Relvars)
+    requires alone { has_log (read_relvars relvars.old).relvars ≡ false }
+    requires room { ((read_relvars relvars.old).accepted +ℤ pos 1) <ℤ greatest_whole }
+    ensures counted { read_relvars relvars.new ≡ counted (read_relvars relvars.old) }
+    ensures list { relvars.new.list ≡ relvars.old.list }
+    ensures step { AreInStep (read_relvars relvars.new).accepted (read_relvars relvars.new).relvars }
+{
+    relvars.accepted += 1;
 }

@@ -18,7 +18,7 @@ ghost use Rattle.assign_core.specs.Logs.{counted_if, is_brought, opened};
 ghost use Rattle.assign_core.specs.NewRows.{joining, replacing, IsAloneIf, IsFoundIf, IsPaidFor, IsToldOf, StaysUnless, TakesNoneIf};
 
 use crate::appending::append_all;
-use crate::assigning::{assign, bring_counted};
+use crate::assigning::{assign, bring_counted, count_alone};
 use crate::counting::rows_of_bases;
 use crate::dropping::drop_group;
 use crate::hashed::{Hashed, no_hashes};
@@ -135,13 +135,7 @@ impl Database {
         ensures assigned { (mid : State) × IsAssigned result (read_relvars self.old) mid (map read_assignment list.now) × (read_relvars self.new ≡ counted_if (is_ok result) mid) }
         ensures cost { steps.new ≤ steps.old + cost_of_assignments (read_relvars self.old) (map read_assignment list.now) }
     {
-        assign(
-            self.alloc,
-            &mut self.relvars,
-            &mut self.hashed,
-            list,
-            steps,
-        )
+        assign(self.alloc, &mut self.relvars, &mut self.hashed, list, steps)
     }
 
     /// Performs the items of an assignment, all together, and counts the statement; or refuses and changes nothing. Each stands for
@@ -259,7 +253,7 @@ impl Database {
         if has_log(&self.relvars) {
             count(&mut self.relvars, &mut []);
         } else {
-            self.relvars.accepted += 1;
+            count_alone(&mut self.relvars);
         }
     }
 }

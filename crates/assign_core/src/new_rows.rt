@@ -13,6 +13,7 @@ ghost use Rattle.assign_core.specs.Costs.{constraints_cost, constraints_cost_of}
 ghost use Rattle.assign_core.specs.Databases.{IsKept};
 ghost use Rattle.assign_core.specs.Hashed.{AreHashed};
 ghost use Rattle.assign_core.specs.Insertions.{sum_in, united_cost};
+ghost use Rattle.assign_core.specs.Logs.{KeepsLogs};
 ghost use Rattle.assign_core.specs.NewRows.{joined_cost, rows_then, IsFoundIf, IsListFor, IsPaidFor, IsToldOf, StaysUnless, TakesNoneIf};
 ghost use Rattle.assign_core.specs.Targets.{entries_before, IsTarget};
 ghost use Rattle.assign_core.specs.Exchanges.{with_ready, IsReady};
@@ -62,6 +63,7 @@ pub(crate) fn bring<L: Ledger>(
     ensures found { IsFoundIf result (read_relvars relvars.old) target.now rows.heading }
     ensures stays { StaysUnless result (read_relvars relvars.old) (read_relvars relvars.new) }
     ensures none { TakesNoneIf result steps.old steps.new }
+    ensures logs { KeepsLogs (read_relvars relvars.old) (read_relvars relvars.new) }
     ensures kept { IsKept (read_relvars relvars.new) }
     ensures hashed { AreHashed hashed.new (read_relvars relvars.new).relvars }
     ensures cost { IsPaidFor (way_of way.entry) (read_relvars relvars.old) target.now rows steps.old steps.new }

@@ -1,5 +1,5 @@
-use Rattle.std.proofs.Common.{rules, ◌≡◌, ◌<◌, drop, length, map, sym, subst, ◌∙◌, arith}
-use Rattle.tree_core.specs.Relvars.{Entries, read_entry}
+use Rattle.std.proofs.Common.{◌≡◌, ◌<◌, length, map, sym, subst, arith}
+use Rattle.tree_core.specs.Relvars.{read_entry}
 use Rattle.assign_core.specs.declared.exchange.Change.{Change}
 use Rattle.assign_core.specs.Exchanges.{filled, place_of, turned, replaced, AreValues, IsHeldFor}
 use Rattle.relvar_logs.specs.Changes.{turned_at, IsSoAt}

@@ -8,6 +8,7 @@ use Rattle.assign_core.specs.Assignments.{kept_or_refused, IsRefusedFor}
 use Rattle.assign_core.specs.NewRows.{IsFoundIf}
 use Rattle.assign_core.specs.Exchanges.{with_ready}
 use Rattle.assign_core.proofs.NewRowLemmas.{brought_of, paid_of, refused_so, refused_rule, entered, entered_keeps, rules_price}
+use Rattle.assign_core.proofs.LogLemmas.{settled_logs}
 use Rattle.assign_core.proofs.new_rows.bring.Goals as goal
 
 pub returns-in_err-found-clause-brought : goal.returns-in_err-found-clause-brought
@@ -106,3 +107,15 @@ pub returns-in-None-clause-none : goal.returns-in-None-clause-none
 returns-in-None-clause-none g c =
     let s = read_relvars c.args.relvars.now in
     subst (λ (o : Option Ready). IsReadied (Ok o) s (way_of c.args.way) c.args.target.now c.args.rows c.args.steps.now c.ready_rows.new.steps) c.in-None.is c.in_ok-found.ensures.readied
+
+pub returns-in_err-settle-in-Some-clause-logs : goal.returns-in_err-settle-in-Some-clause-logs
+returns-in_err-settle-in-Some-clause-logs g c =
+    let s = read_relvars c.args.relvars.now in
+    let told = subst (λ (o : Option Ready). IsReadied (Ok o) s (way_of c.args.way) c.args.target.now c.args.rows c.args.steps.now c.ready_rows.new.steps) c.in-Some.is c.in_ok-found.ensures.readied in
+    settled_logs c.settle.result s (read_relvars c.settle.new.relvars) c.in-Some.ready told.0 c.settle.ensures.settled
+
+pub returns-in_ok-settle-in-Some-clause-logs : goal.returns-in_ok-settle-in-Some-clause-logs
+returns-in_ok-settle-in-Some-clause-logs g c =
+    let s = read_relvars c.args.relvars.now in
+    let told = subst (λ (o : Option Ready). IsReadied (Ok o) s (way_of c.args.way) c.args.target.now c.args.rows c.args.steps.now c.ready_rows.new.steps) c.in-Some.is c.in_ok-found.ensures.readied in
+    settled_logs c.settle.result s (read_relvars c.settle.new.relvars) c.in-Some.ready told.0 c.settle.ensures.settled

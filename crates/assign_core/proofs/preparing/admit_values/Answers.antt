@@ -1,8 +1,5 @@
-use Rattle.std.proofs.Common.{◌≡◌, map, sym, ap, subst, ◌∙◌, List, Ok}
-use Rattle.std.proofs.lemmas.Result.{err_from_is_err_and}
+use Rattle.std.proofs.Common.{map, sym, ap, subst, ◌∙◌, List}
 use Rattle.tree_core.specs.Relvars.{read_entry}
-use Rattle.relvar_logs.specs.Changes.{Changes, changed}
-use Rattle.assign_core.specs.Assignments.{kept_or_refused, IsRefusedFor}
 use Rattle.assign_core.specs.Exchanges.{exchanged_by, ArePrepared}
 use Rattle.assign_core.specs.declared.exchange.Change.{Change}
 use Rattle.assign_core.proofs.RenewedLemmas.{values_ready}

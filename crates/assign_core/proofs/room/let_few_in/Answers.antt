@@ -1,10 +1,10 @@
-use Rattle.std.proofs.Common.{rules, ◌≡◌, ◌≤◌, List, true, length, not, drop, sym, ap, subst, ◌∙◌, arith}
+use Rattle.std.proofs.Common.{◌≡◌, List, true, length, not, drop, sym, ap, subst, ◌∙◌, arith}
 use Rattle.std.proofs.lemmas.List.Elements.{All-filter}
 use Rattle.std.specs.List.{All}
 use Rattle.std.specs.List.Sorted.{IsStrictlySortedBy}
 use Rattle.std.specs.Vec.{vec_len, vec_capacity}
 use Rattle.base_core.specs.Sets.{has}
-use Rattle.value_core.specs.Values.{Heading, Row, Relation, row_cmp}
+use Rattle.value_core.specs.Values.{Heading, Row, row_cmp}
 use Rattle.relation_core.proofs.FilterLemmas.{length-filter_at_most}
 use Rattle.relation_core.specs.Operators.{subtracted}
 use Rattle.assign_core.specs.Exchanges.{HasRoom}
