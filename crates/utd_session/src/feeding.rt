@@ -69,7 +69,7 @@ fn answer_to_ended<L: Ledger>(
     steps: &mut Steps<L>,
 ) -> Result<Reply, Memory>
     requires start { unfinished.now.start.line + unfinished.now.start.column ≤ 2 ^ 31 }
-    requires room { (state_of database.old).accepted <ℤ greatest_whole }
+    requires room { ((state_of database.old).accepted +ℤ pos 1) <ℤ greatest_whole }
     ensures reply { (place : Place) (bytes : List ℕ) → IsUnfinished unfinished.now place bytes
         → IfOk result (λ r. IsReplyTo (Complete place bytes) (state_of database.old) (state_of database.new) texts.old texts.new number r) }
     ensures stays { OnErr result (state_of database.new ≡ state_of database.old) }
@@ -105,7 +105,7 @@ fn reply_to_end<L: Ledger>(
     requires places { Fits unfinished.old.next (length prefix.now) }
     requires start { unfinished.old.start.line + unfinished.old.start.column ≤ 2 ^ 31 }
     requires few { unfinished.old.size + length prefix.now ≤ 2 ^ 32 - 1 }
-    requires room { (state_of database.old).accepted <ℤ greatest_whole }
+    requires room { ((state_of database.old).accepted +ℤ pos 1) <ℤ greatest_whole }
     ensures reply { (place : Place) (bytes : List ℕ) → IsUnfinished unfinished.old place bytes
         → IfOk result (λ r. IsReplyTo (Complete place (bytes ++ prefix.now))
         (state_of database.old) (state_of database.new) texts.old texts.new number r) }

@@ -7,10 +7,13 @@ use Rattle.value_core.specs.declared.refuse.Refuse.{Refuse}
 use Rattle.value_core.specs.declared.refuse.Refuse.TheVariants.{Plain, At, Broken, Memory}
 use Rattle.value_core.specs.Values.{Name, Heading, Relation}
 use Rattle.tree_core.specs.Relvars.{Entries, State}
+use Rattle.meaning_core.specs.Declarations.{counted}
+use Rattle.meaning_core.specs.Logs.{has_log}
 use Rattle.utd_syntax.specs.Plain.{Word, LiteralP, StatementP}
 use Rattle.assign_core.specs.Assignments.{assigned_in, IsRefusedFor}
 use Rattle.assign_core.specs.Costs.{cost_of_assignments}
-use Rattle.assign_core.specs.NewRows.{Arriving, brought_cost, brought_in, IsBaseWith, IsBrought, IsFoundIf, IsGivenTo, IsListFor, IsPaidFor, IsToldOf, StaysUnless, TakesNoneIf}
+use Rattle.assign_core.specs.Logs.{counted_if, is_brought}
+use Rattle.assign_core.specs.NewRows.{Arriving, brought_cost, brought_in, IsAloneIf, IsBaseWith, IsBrought, IsFoundIf, IsGivenTo, IsListFor, IsPaidFor, IsToldOf, StaysUnless, TakesNoneIf}
 use Rattle.assign_core.proofs.BroughtLemmas.{brought_assigned, brought_costs}
 use Rattle.constant_laws.proofs.ListedPositions.{listed-is_list}
 use Rattle.constant_laws.specs.Insertions.{Bringing, Setting, Adding, AddingUnder, IsStatementOf}
@@ -23,18 +26,13 @@ use Rattle.utd_statement.specs.Bringing.{IsDoneBy, IsToldBy, IsTried}
 use Rattle.utd_statement.specs.Costs.{cost_if_typed, cost_of_tree}
 use Rattle.utd_statement.specs.Keeping.{Leaves, keeping_of}
 use Rattle.utd_statement.specs.Readings.{Tree, IsText}
-use Rattle.utd_statement.specs.Replies.{IsPerformed, IsRefusedWith}
+use Rattle.utd_statement.specs.Replies.{IsPerformed}
+use Rattle.utd_statement.proofs.ChangingLemmas.{refused_with}
 
 leaves_of : (bringing : Bringing) (heading : Heading) (tree : StatementP) (w : Word) (l : LiteralP) → IsStatementOf bringing heading tree w l → keeping_of tree ≡ Leaves
 leaves_of Setting heading tree w l is = ap keeping_of is
 leaves_of Adding heading tree w l is = ap keeping_of is.1
 leaves_of (AddingUnder commalist) heading tree w l is = ap keeping_of is.4
-
-refused_with : (state : State) (refuse : Refuse) (meant : Result Entries Refuse) → IsRefusedFor refuse meant → IsRefusedWith refuse (unless_refused state meant)
-refused_with state Memory meant told = tt
-refused_with state (Plain code) meant told = ap (unless_refused state) told
-refused_with state (At fault) meant told = ap (unless_refused state) told
-refused_with state (Broken code relvar number) meant told = ap (unless_refused state) told
 
 module _ (start : Place) (bytes : List ℕ) (bringing : Bringing) (relvar : Name) (relation : Relation) (state : State) (brings : AreRowsOf state.ordinals bytes bringing relvar relation) where
   abbrev way : Arriving
@@ -58,7 +56,7 @@ module _ (start : Place) (bytes : List ℕ) (bringing : Bringing) (relvar : Name
   leaves : keeping_of from.tree ≡ Leaves
   leaves = leaves_of bringing relation.heading from.tree from.plain.w from.plain.l from.plain.is
 
-  module _ (found : IsBaseWith state relvar relation.heading) where
+  module _ (found : IsBaseWith state relvar relation.heading) (alone : has_log state.relvars ≡ false) where
     abbrev done : IsPlainDone state bringing relvar found.old brings.given from.tree
     done = plain-done state bringing relvar relation.heading brings.given from.tree found.old found.constraints from.plain brings.named found.there (sym found.headed) found.relation
 
@@ -71,7 +69,7 @@ module _ (start : Place) (bytes : List ℕ) (bringing : Bringing) (relvar : Name
     assigned_so : assigned_in state (assignments_of state.relvars done.items) ≡ meant
     assigned_so =
         ap (assigned_in state) done.meant
-        ∙ (brought_assigned state done.assignment way done.at done.there found.old brings.given done.source
+        ∙ (brought_assigned state done.assignment way done.at done.there found.old brings.given done.source alone
         ∙ ap (λ (name : Name). brought_in state way done.at done.there name found.old brings.given) done.target)
 
     answered_so : of_tree state from.tree ≡ unless_refused state meant
@@ -86,23 +84,24 @@ module _ (start : Place) (bytes : List ℕ) (bringing : Bringing) (relvar : Name
     within : (before now : ℕ) → now ≤ before + cost_meant → now ≤ before + cost_of_tree state from.tree
     within before now least = let more = costs_so in omega (arith, least, more)
 
-    added : (new : State) (text : Vec ℕ Global) (before now : ℕ) → IsBrought (Ok true) state new meant → text.items ≡ [] → now ≤ before + cost_meant → IsDoneBy start bytes (Ok text) state new before now
-    added new text before now told empty cost =
-        let e : of_tree state from.tree ≡ Changed (record state { relvars = new.relvars }) = answered_so ∙ ap (unless_refused state) told.0 in
+    added : (mid new : State) (text : Vec ℕ Global) (before now : ℕ) → IsBrought (Ok true) state mid meant → new ≡ counted mid → text.items ≡ [] → now ≤ before + cost_meant
+        → IsDoneBy start bytes (Ok text) state new before now
+    added mid new text before now told then empty cost =
+        let e : of_tree state from.tree ≡ Changed (record state { relvars = mid.relvars }) = answered_so ∙ ap (unless_refused state) told.0 in
         record {
           tree = from.tree;
           text = text_is;
           leaves = leaves;
-          performed = subst (λ (a : Answer). IsPerformed (Ok text) state new a) (sym e) (((λ n. empty), refl), told.1);
+          performed = subst (λ (a : Answer). IsPerformed (Ok text) state new a) (sym e) (((λ n. empty), refl), then ∙ ap counted told.1);
           cost = within before now cost;
         }
 
-    refused : (refuse : Refuse) (new : State) (before now : ℕ) → IsBrought (Err refuse) state new meant → now ≤ before + cost_meant → IsDoneBy start bytes (Err refuse) state new before now
-    refused refuse new before now told cost = record {
+    refused : (refuse : Refuse) (mid new : State) (before now : ℕ) → IsBrought (Err refuse) state mid meant → new ≡ mid → now ≤ before + cost_meant → IsDoneBy start bytes (Err refuse) state new before now
+    refused refuse mid new before now told then cost = record {
       tree = from.tree;
       text = text_is;
       leaves = leaves;
-      performed = subst (λ (a : Answer). IsPerformed (Err refuse) state new a) (sym answered_so) (refused_with state refuse meant told.0, told.1);
+      performed = subst (λ (a : Answer). IsPerformed (Err refuse) state new a) (sym answered_so) (refused_with state refuse meant told.0, then ∙ told.1);
       cost = within before now cost;
     }
 
@@ -111,20 +110,24 @@ module _ (start : Place) (bytes : List ℕ) (bringing : Bringing) (relvar : Name
   given_to : (found : IsBaseWith state relvar relation.heading) → IsGivenTo state relvar relation found.old brings.given
   given_to found = record { constraints = found.constraints; there = found.there; headed = found.headed; are = brings.rows }
 
-  told_at : (result : Result Bool Refuse) (new : State) (found : IsBaseWith state relvar relation.heading) → IsToldOf way result state new relvar relation → IsBrought result state new (meant found)
-  told_at result new found told = told found.old (done found).at (done found).there brings.given (given_to found)
+  told_at : (result : Result Bool Refuse) (mid : State) (found : IsBaseWith state relvar relation.heading) (alone : has_log state.relvars ≡ false) → IsToldOf way result state mid relvar relation
+      → IsBrought result state mid (meant found alone)
+  told_at result mid found alone told = told found.old (done found alone).at (done found alone).there brings.given (given_to found)
 
-  paid_at : (before now : ℕ) (found : IsBaseWith state relvar relation.heading) → IsPaidFor way state relvar relation before now → now ≤ before + cost_meant found
-  paid_at before now found paid = paid found.old (done found).at (done found).there brings.given (given_to found)
+  paid_at : (before now : ℕ) (found : IsBaseWith state relvar relation.heading) (alone : has_log state.relvars ≡ false) → IsPaidFor way state relvar relation before now → now ≤ before + cost_meant found alone
+  paid_at before now found alone paid = paid found.old (done found alone).at (done found alone).there brings.given (given_to found)
 
-  pub tried_so : (done_so : Result Bool Refuse) (result : Option (Result (Vec ℕ Global) Refuse)) (new : State) (before now : ℕ) → IsToldBy done_so result → IsFoundIf done_so state relvar relation.heading
-      → IsToldOf way done_so state new relvar relation → StaysUnless done_so state new → TakesNoneIf done_so before now → IsPaidFor way state relvar relation before now → IsTried start bytes result state new before now
-  tried_so (Ok true) (Some (Ok text)) new before now empty found told stays none paid = added found new text before now (told_at (Ok true) new found told) empty (paid_at before now found paid)
-  tried_so (Ok true) (Some (Err refuse)) new before now h found told stays none paid = absurd h
-  tried_so (Ok true) None new before now h found told stays none paid = absurd h
-  tried_so (Ok false) (Some written) new before now h found told stays none paid = absurd h
-  tried_so (Ok false) None new before now h found told stays none paid = (stays, none)
-  tried_so (Err refuse) (Some (Ok text)) new before now h found told stays none paid = absurd h
-  tried_so (Err refuse) (Some (Err other)) new before now same found told stays none paid =
-      subst (λ (r : Refuse). IsDoneBy start bytes (Err r) state new before now) (sym same) (refused found refuse new before now (told_at (Err refuse) new found told) (paid_at before now found paid))
-  tried_so (Err refuse) None new before now h found told stays none paid = absurd h
+  pub tried_so : (done_so : Result Bool Refuse) (result : Option (Result (Vec ℕ Global) Refuse)) (mid new : State) (before now : ℕ) → IsToldBy done_so result → IsFoundIf done_so state relvar relation.heading
+      → IsAloneIf done_so state → IsToldOf way done_so state mid relvar relation → new ≡ counted_if (is_brought done_so) mid → StaysUnless done_so state new → TakesNoneIf done_so before now
+      → IsPaidFor way state relvar relation before now → IsTried start bytes result state new before now
+  tried_so (Ok true) (Some (Ok text)) mid new before now empty found alone told then stays none paid =
+      added found alone mid new text before now (told_at (Ok true) mid found alone told) then empty (paid_at before now found alone paid)
+  tried_so (Ok true) (Some (Err refuse)) mid new before now h found alone told then stays none paid = absurd h
+  tried_so (Ok true) None mid new before now h found alone told then stays none paid = absurd h
+  tried_so (Ok false) (Some written) mid new before now h found alone told then stays none paid = absurd h
+  tried_so (Ok false) None mid new before now h found alone told then stays none paid = (stays, none)
+  tried_so (Err refuse) (Some (Ok text)) mid new before now h found alone told then stays none paid = absurd h
+  tried_so (Err refuse) (Some (Err other)) mid new before now same found alone told then stays none paid =
+      subst (λ (r : Refuse). IsDoneBy start bytes (Err r) state new before now) (sym same)
+      (refused found alone refuse mid new before now (told_at (Err refuse) mid found alone told) then (paid_at before now found alone paid))
+  tried_so (Err refuse) None mid new before now h found alone told then stays none paid = absurd h

@@ -1,6 +1,6 @@
 -- What a statement makes of a state has the count of accepted statements as it was: the statement is counted behind it.
 --     after-counted      the state after an accepted statement
---     performed-count      the count before the statement is counted
+--     made-performed, made-count      what is made is counted, and has the count as it was
 --     replied-count, answered-count      how far it rises
 use Rattle.std.proofs.Common.{◌≡◌, ℕ, ℤ, pos, ◌+ℤ◌, ◌≤ℤ◌, Bool, true, false, List, [], ◌∷◌, Result, Ok, Err, Vec, Global, IfOk, if◌then◌else◌, refl, sym, ap, ◌∙◌, subst, arith}
 use Rattle.std.proofs.lemmas.Int.{ints}
@@ -8,25 +8,28 @@ use Rattle.std.specs.Prelude.{OnErr}
 use Rattle.std.proofs.lemmas.Bool.{true≢false}
 use Rattle.point_core.specs.declared.fault.Place.{Place}
 use Rattle.point_core.specs.declared.memory.Memory.{Memory as NoMemory}
-use Rattle.point_core.specs.declared.fault.Code.TheVariants.{E45}
+use Rattle.point_core.specs.declared.fault.Code.TheVariants.{E45, E46}
 use Rattle.point_core.specs.Faults.{OrFault}
 use Rattle.value_core.specs.declared.refuse.Refuse.{Refuse}
-use Rattle.value_core.specs.declared.refuse.Refuse.TheVariants.{Broken}
+use Rattle.value_core.specs.declared.refuse.Refuse.TheVariants.{Broken, Plain as PlainRefusal}
 use Rattle.value_core.specs.Values.{Name}
+use Rattle.tree_core.specs.declared.declaration.LogData.{LogData}
 use Rattle.tree_core.specs.Relvars.{Entries, State}
 use Rattle.tree_core.specs.Trees.{Test}
-use Rattle.meaning_core.specs.Declarations.{PlainDeclaration, ordinal_type, base_relvar, view_relvar, counted, with_declaration, with_rule}
+use Rattle.meaning_core.specs.Declarations.{PlainDeclaration, ordinal_type, base_relvar, view_relvar, counted, with_declaration, with_log, with_rule}
+use Rattle.meaning_core.specs.Logs.{turned_logs}
 use Rattle.meaning_core.specs.Truths.{holds_in, truth_in}
 use Rattle.assign_core.specs.Assignments.{assigned_in, constrained}
 use Rattle.assign_core.specs.Items.{assignments_of}
+use Rattle.assign_core.specs.Logs.{have_room}
 use Rattle.since_during.specs.Histories.{declared_history, declared_in}
 use Rattle.utd_syntax.specs.Plain.{StatementP}
-use Rattle.type_check.specs.Checks.{Plain, nothing, declare_ordinal, declare_base, declare_view, declare_history, remove, declare_rule, remove_rule, assign, print, ask, checked}
+use Rattle.type_check.specs.Checks.{Plain, nothing, declare_ordinal, declare_base, declare_view, declare_history, declare_log, remove, declare_rule, remove_rule, assign, print, ask, checked}
 use Rattle.dump_core.specs.Texts.{SourceText}
 use Rattle.utd_statement.specs.declared.reply.Reply.{Reply}
 use Rattle.utd_statement.specs.Answers.{Answer, Done, Changed, Table, Truth, Refusal, answer, if_allowed, is_accepted, made_by, of_checked, of_tree, relation_in, state_after, unless_fault, unless_refused}
 use Rattle.utd_statement.specs.Readings.{Reading, Tree, Refused}
-use Rattle.utd_statement.specs.Replies.{IsAnswered, IsAnswerTo, IsPerformed}
+use Rattle.utd_statement.specs.Replies.{IsAnswered, IsAnswerTo, IsMade, IsPerformed}
 
 -- ---- the state after an accepted statement
 
@@ -56,6 +59,10 @@ module _ (s : State) where
       by true = refl
       by false = refl
 
+  opened-count : (d : LogData) (b : Bool) → (made_by s (if_allowed (if b then Ok (with_log s d) else Err (PlainRefusal E46)))).accepted ≡ s.accepted
+  opened-count d true = refl
+  opened-count d false = refl
+
   refused-count : (r : Result Entries Refuse) → (made_by s (unless_refused s r)).accepted ≡ s.accepted
   refused-count (Ok entries) = refl
   refused-count (Err refuse) = refl
@@ -64,12 +71,13 @@ module _ (s : State) where
   fault-count f same (Ok v) = same v
   fault-count f same (Err e) = refl
 
-  checked-count : (p : Plain) → (made_by s (of_checked s p)).accepted ≡ s.accepted
+  pub checked-count : (p : Plain) → (made_by s (of_checked s p)).accepted ≡ s.accepted
   checked-count nothing = refl
   checked-count (declare_ordinal d) = declared-count s d
   checked-count (declare_base d) = declared-count s d
   checked-count (declare_view d) = declared-count s d
   checked-count (declare_history h) = list-count (declared_history h) s
+  checked-count (declare_log d) = opened-count d (have_room (turned_logs (with_log s d).relvars))
   checked-count (remove name) = refl
   checked-count (declare_rule name t) = allowed-count name t
   checked-count (remove_rule name) = refl
@@ -80,9 +88,14 @@ module _ (s : State) where
   tree-count : (tree : StatementP) → (made_by s (of_tree s tree)).accepted ≡ s.accepted
   tree-count tree = fault-count (of_checked s) checked-count (checked s tree)
 
-pub performed-count : (written : Result (Vec ℕ Global) Refuse) (old new : State) (tree : StatementP) → IsPerformed written old new (of_tree old tree) → new.accepted ≡ old.accepted
-performed-count (Ok text) old new tree h = ap (λ (s : State). s.accepted) h.1 ∙ tree-count old tree
-performed-count (Err refuse) old new tree h = ap (λ (s : State). s.accepted) h.1
+-- and so it is counted
+pub made-performed : (text : Vec ℕ Global) (old mid new : State) (a : Answer) → IsMade (Ok text) old mid a → new ≡ counted mid → IsPerformed (Ok text) old new a
+made-performed text old mid new a h e = (h.0, e ∙ (ap counted h.1 ∙ after-counted old a h.0.1))
+
+-- the count of what is made, of a typed statement
+pub made-count : (made : Result (Vec ℕ Global) Refuse) (old mid : State) (p : Plain) → IsMade made old mid (of_checked old p) → mid.accepted ≡ old.accepted
+made-count (Ok text) old mid p h = ap (λ (s : State). s.accepted) h.1 ∙ checked-count old p
+made-count (Err refuse) old mid p h = ap (λ (s : State). s.accepted) h.1
 
 -- ---- how far it rises
 

@@ -5,5 +5,6 @@ pub mod EmptyLemmas
 pub mod RangeLaws
 pub mod CostLemmas
 pub mod BringingLemmas
+pub mod ChangingLemmas
 pub mod AnswerLemmas
 pub mod CountedLemmas

@@ -15,7 +15,7 @@ use Rattle.meaning_core.proofs.LookupLemmas.{given_none, heading_read}
 use Rattle.type_check.specs.Checks.{print}
 use Rattle.utd_print.specs.Tables.{table}
 use Rattle.utd_statement.specs.Answers.{Answer, Table, unless_fault, relation_in, of_checked, made_by}
-use Rattle.utd_statement.specs.Replies.{IsTextOf, IsPerformed}
+use Rattle.utd_statement.specs.Replies.{IsTextOf, IsMade}
 
 -- ---- expressions
 
@@ -27,17 +27,17 @@ relation_is state t r h =
 
 module _ {A : Type 0} (f : A → Answer) (state : State) (stays : (v : A) → made_by state (f v) ≡ state) where
   -- the fault of an evaluation
-  stop_performed : (stop : Stop) (meant : OrFault A) → Answers {A = A} (Err stop) meant → IsPerformed (Err (refusal_of stop)) state state (unless_fault f meant)
+  stop_performed : (stop : Stop) (meant : OrFault A) → Answers {A = A} (Err stop) meant → IsMade (Err (refusal_of stop)) state state (unless_fault f meant)
   stop_performed (stops.Fault e) meant h = (ap (unless_fault f) h, refl)
   stop_performed stops.Memory meant h = (tt, refl)
 
-  value_performed : (v : A) (meant : OrFault A) (text : Vec ℕ Global) → meant ≡ Ok v → IsTextOf (f v) text → IsPerformed (Ok text) state state (unless_fault f meant)
-  value_performed v meant text e h = subst (λ m. IsPerformed (Ok text) state state (unless_fault f m)) (sym e) (h, sym (stays v))
+  value_performed : (v : A) (meant : OrFault A) (text : Vec ℕ Global) → meant ≡ Ok v → IsTextOf (f v) text → IsMade (Ok text) state state (unless_fault f meant)
+  value_performed v meant text e h = subst (λ m. IsMade (Ok text) state state (unless_fault f m)) (sym e) (h, sym (stays v))
 
 pub printed_text : (state : State) (t : RelTree) (r : Relation) (text : Vec ℕ Global) → Answers (Ok r) (under t.heading (meaning_in (given None None state.relvars) (read_tree t)))
-    → text.items ≡ table state.ordinals r → IsPerformed (Ok text) state state (of_checked state (print (read_tree t)))
+    → text.items ≡ table state.ordinals r → IsMade (Ok text) state state (of_checked state (print (read_tree t)))
 printed_text state t r text h e = value_performed (Table state.ordinals) state (λ v. refl) r _ text (relation_is state t (Ok r) h) ((λ n. e), refl)
 
 pub printed_stop : (state : State) (t : RelTree) (stop : Stop) → Answers {A = Relation} (Err stop) (under t.heading (meaning_in (given None None state.relvars) (read_tree t)))
-    → IsPerformed (Err (refusal_of stop)) state state (of_checked state (print (read_tree t)))
+    → IsMade (Err (refusal_of stop)) state state (of_checked state (print (read_tree t)))
 printed_stop state t stop h = stop_performed (Table state.ordinals) state (λ v. refl) stop _ (relation_is state t (Err stop) h)

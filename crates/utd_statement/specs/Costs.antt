@@ -10,7 +10,7 @@ use Rattle.algebra_core.specs.Costs.{cost_in, test_cost}
 use Rattle.assign_core.specs.Costs.{cost_of_assignments}
 use Rattle.assign_core.specs.Items.{assignments_of}
 use Rattle.utd_syntax.specs.Plain.{StatementP}
-use Rattle.type_check.specs.Checks.{Plain, nothing, declare_ordinal, declare_base, declare_view, declare_history, remove, declare_rule, remove_rule, assign, print, ask, checked}
+use Rattle.type_check.specs.Checks.{Plain, nothing, declare_ordinal, declare_base, declare_view, declare_history, declare_log, remove, declare_rule, remove_rule, assign, print, ask, checked}
 use Rattle.utd_statement.specs.Readings.{Reading, Tree, Refused, IsText}
 
 -- the steps of the expression that is printed, of the test that is asked or declared, or of the sources and the constraints of assignments
@@ -20,6 +20,7 @@ cost_of_checked state (declare_ordinal d) = 0
 cost_of_checked state (declare_base d) = 0
 cost_of_checked state (declare_view d) = 0
 cost_of_checked state (declare_history h) = 0
+cost_of_checked state (declare_log d) = 0
 cost_of_checked state (remove name) = 0
 cost_of_checked state (declare_rule name t) = test_cost state.relvars t
 cost_of_checked state (remove_rule name) = 0

@@ -32,9 +32,15 @@ IsRefusedWith (refuses.At fault) answer = answer ≡ Refusal (refuses.At fault)
 IsRefusedWith (refuses.Plain code) answer = answer ≡ Refusal (refuses.Plain code)
 IsRefusedWith (refuses.Broken code relvar number) answer = answer ≡ Refusal (refuses.Broken code relvar number)
 
--- the text of the answer where that accepts, and what the answer makes of the state; or its refusal, or want of memory, and the state as it was
+-- the text of the answer where that accepts, and what the answer makes of the state before the statement is counted; or its refusal, or want
+-- of memory, and the state as it was
+abbrev pub IsMade : Result (Vec ℕ Global) Refuse → State → State → Answer → Type 0
+IsMade (Ok text) old new answer = IsTextOf answer text × (new ≡ made_by old answer)
+IsMade (Err refuse) old new answer = IsRefusedWith refuse answer × (new ≡ old)
+
+-- the same, where a statement that is accepted is counted
 abbrev pub IsPerformed : Result (Vec ℕ Global) Refuse → State → State → Answer → Type 0
-IsPerformed (Ok text) old new answer = IsTextOf answer text × (new ≡ made_by old answer)
+IsPerformed (Ok text) old new answer = IsTextOf answer text × (new ≡ state_after old answer)
 IsPerformed (Err refuse) old new answer = IsRefusedWith refuse answer × (new ≡ old)
 
 -- a statement of these bytes is replied to by what it is read as, which leaves its state and its texts

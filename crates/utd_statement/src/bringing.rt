@@ -1,7 +1,10 @@
 // Statements that bring rows, performed straight from their bytes.
+ghost use Rattle.std.specs.Prelude.{◌≡◌, ◌<ℤ◌, ◌+ℤ◌, pos};
 ghost use Rattle.point_core.specs.declared.fault.Place.{Place};
-ghost use Rattle.tree_core.specs.Relvars.{read_relvars};
-ghost use Rattle.assign_core.specs.NewRows.{IsFoundIf, IsListFor, IsPaidFor, IsToldOf, StaysUnless, TakesNoneIf};
+ghost use Rattle.point_core.specs.Whole.{greatest_whole};
+ghost use Rattle.tree_core.specs.Relvars.{read_relvars, State};
+ghost use Rattle.assign_core.specs.Logs.{counted_if, is_brought};
+ghost use Rattle.assign_core.specs.NewRows.{IsAloneIf, IsFoundIf, IsListFor, IsPaidFor, IsToldOf, StaysUnless, TakesNoneIf};
 ghost use Rattle.constant_effects.specs.Ways.{arriving_of};
 ghost use Rattle.plain_rows.specs.Brought.{bringing_of};
 ghost use Rattle.utd_statement.specs.Bringing.{IsToldBy, IsTried};
@@ -32,8 +35,10 @@ fn put<L: Ledger>(
     rows: Relation,
     steps: &mut Steps<L>,
 ) -> Result<bool, Refuse>
-    requires { IsListFor rows.heading (arriving_of (bringing_of way.now)) }
-    ensures brought { IsToldOf (arriving_of (bringing_of way.now)) result (read_relvars database.old) (read_relvars database.new) relvar.now rows }
+    requires list { IsListFor rows.heading (arriving_of (bringing_of way.now)) }
+    requires room { ((read_relvars database.old).accepted +ℤ pos 1) <ℤ greatest_whole }
+    ensures brought { (mid : State) × IsToldOf (arriving_of (bringing_of way.now)) result (read_relvars database.old) mid relvar.now rows × (read_relvars database.new ≡ counted_if (is_brought result) mid) }
+    ensures alone { IsAloneIf result (read_relvars database.old) }
     ensures found { IsFoundIf result (read_relvars database.old) relvar.now rows.heading }
     ensures stays { StaysUnless result (read_relvars database.old) (read_relvars database.new) }
     ensures none { TakesNoneIf result steps.old steps.new }
@@ -49,14 +54,15 @@ fn put<L: Ledger>(
 }
 
 /// What a statement writes that brings rows, or why it is refused: performed straight from its bytes, with no tree. It is left, and changes
-/// nothing, where its bytes are none of these, where its relvar is none with the rows' heading, where that might have too many rows, and
-/// where they come under a list of several attributes.
+/// nothing, where its bytes are none of these, where its relvar is none with the rows' heading, where that might have too many rows, where
+/// they come under a list of several attributes, and where there is a log.
 pub(crate) fn bring<L: Ledger>(
     alloc: Global,
     text: &[u8],
     database: &mut Database,
     steps: &mut Steps<L>,
 ) -> Option<Result<Vec<u8>, Refuse>>
+    requires { ((read_relvars database.old).accepted +ℤ pos 1) <ℤ greatest_whole }
     ensures { (start : Place) → IsTried start text.now result (read_relvars database.old) (read_relvars database.new) steps.old steps.new }
 {
     let Some(plain) = read(alloc, text, &database.relvars().ordinals) else {

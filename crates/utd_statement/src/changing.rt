@@ -1,11 +1,12 @@
 // What statements change. No memory is taken once the database has changed.
-ghost use Rattle.std.specs.Prelude.{◌≤◌, ◌+◌, map};
+ghost use Rattle.std.specs.Prelude.{◌≤◌, ◌<ℤ◌, ◌+◌, ◌+ℤ◌, pos, map};
 ghost use Rattle.std.specs.List.{All};
+ghost use Rattle.point_core.specs.Whole.{greatest_whole};
 ghost use Rattle.tree_core.specs.Items.{read_item};
 ghost use Rattle.tree_core.specs.Relvars.{read_relvars};
 ghost use Rattle.tree_core.specs.Trees.{read_test};
 ghost use Rattle.meaning_core.specs.Declarations.{read_declaration, with_declaration, with_rule, without_group, without_rule};
-ghost use Rattle.meaning_core.specs.Updates.{IsTypedItem};
+ghost use Rattle.meaning_core.specs.Updates.{IsTypedItem, IsTypedLog};
 ghost use Rattle.meaning_core.specs.WellMade.{IsWellMade};
 ghost use Rattle.since_during.specs.Histories.{declared_history, declared_in, IsTypedHistory};
 ghost use Rattle.algebra_core.specs.Costs.{test_cost};
@@ -13,15 +14,16 @@ ghost use Rattle.assign_core.specs.Assignments.{assigned_in, constrained};
 ghost use Rattle.assign_core.specs.Costs.{cost_of_assignments};
 ghost use Rattle.assign_core.specs.Databases.{IsKept};
 ghost use Rattle.assign_core.specs.Items.{assignments_of};
+ghost use Rattle.assign_core.specs.Logs.{opened};
 ghost use Rattle.utd_statement.specs.Answers.{Changed, if_allowed, unless_refused};
-ghost use Rattle.utd_statement.specs.Replies.{IsPerformed};
+ghost use Rattle.utd_statement.specs.Replies.{IsMade, IsPerformed};
 
 use assign_core::Database;
 use point_core::Steps;
 use since_during::declare_history;
 use std::alloc::Global;
 use std::sync::ledger::Ledger;
-use tree_core::{Declaration, HistoryData, Items, RelTest};
+use tree_core::{Declaration, HistoryData, Items, LogData, RelTest};
 use value_core::{Name, Refuse};
 
 /// Declares an ordinal type, a relvar or a view.
@@ -31,7 +33,7 @@ pub fn declared(
     database: &mut Database,
 ) -> Result<Vec<u8>, Refuse>
     requires well_made { IsWellMade (with_declaration (read_relvars database.old) (read_declaration declaration)) }
-    ensures { IsPerformed result (read_relvars database.old) (read_relvars database.new)
+    ensures { IsMade result (read_relvars database.old) (read_relvars database.new)
         (Changed (with_declaration (read_relvars database.old) (read_declaration declaration))) }
 {
     let list = vec![in alloc; declaration]?;
@@ -47,7 +49,7 @@ pub fn history_declared(
 ) -> Result<Vec<u8>, Refuse>
     requires kept { IsKept (read_relvars database.old) }
     requires typed { IsTypedHistory (read_relvars database.old) history.now }
-    ensures { IsPerformed result (read_relvars database.old) (read_relvars database.new)
+    ensures { IsMade result (read_relvars database.old) (read_relvars database.new)
         (Changed (declared_in (read_relvars database.old) (declared_history history.now))) }
 {
     let list = declare_history(alloc, history)?;
@@ -58,7 +60,7 @@ pub fn history_declared(
 /// Removes the relvar or view of this name, and with the view of a history its two relvars.
 pub fn removed(alloc: Global, name: &Name, database: &mut Database) -> Result<Vec<u8>, Refuse>
     requires well_made { IsWellMade (without_group name.now (read_relvars database.old)) }
-    ensures { IsPerformed result (read_relvars database.old) (read_relvars database.new) (Changed (without_group name.now (read_relvars database.old))) }
+    ensures { IsMade result (read_relvars database.old) (read_relvars database.new) (Changed (without_group name.now (read_relvars database.old))) }
 {
     database.remove(name)?;
     Ok(Vec::new(alloc))
@@ -73,7 +75,7 @@ pub fn constrained<L: Ledger>(
     steps: &mut Steps<L>,
 ) -> Result<Vec<u8>, Refuse>
     requires well_made { IsWellMade (with_rule name (read_test test) (read_relvars database.old)) }
-    ensures performed { IsPerformed result (read_relvars database.old) (read_relvars database.new)
+    ensures performed { IsMade result (read_relvars database.old) (read_relvars database.new)
         (if_allowed (constrained (read_relvars database.old) name (read_test test))) }
     ensures cost { steps.new ≤ steps.old + test_cost (read_relvars database.old).relvars (read_test test) }
 {
@@ -84,13 +86,13 @@ pub fn constrained<L: Ledger>(
 /// Removes the database constraint of this name.
 pub fn unconstrained(alloc: Global, name: &Name, database: &mut Database) -> Result<Vec<u8>, Refuse>
     requires well_made { IsWellMade (without_rule name.now (read_relvars database.old)) }
-    ensures { IsPerformed result (read_relvars database.old) (read_relvars database.new) (Changed (without_rule name.now (read_relvars database.old))) }
+    ensures { IsMade result (read_relvars database.old) (read_relvars database.new) (Changed (without_rule name.now (read_relvars database.old))) }
 {
     database.unconstrain(name)?;
     Ok(Vec::new(alloc))
 }
 
-/// Performs the items of an assignment, all together, or refuses and changes nothing.
+/// Performs the items of an assignment, all together, and counts the statement; or refuses and changes nothing.
 pub fn assigned<L: Ledger>(
     alloc: Global,
     items: &Items,
@@ -98,11 +100,22 @@ pub fn assigned<L: Ledger>(
     steps: &mut Steps<L>,
 ) -> Result<Vec<u8>, Refuse>
     requires kept { IsKept (read_relvars database.old) }
+    requires room { ((read_relvars database.old).accepted +ℤ pos 1) <ℤ greatest_whole }
     requires typed { All (IsTypedItem (read_relvars database.old)) (map read_item items.now) }
     ensures performed { IsPerformed result (read_relvars database.old) (read_relvars database.new)
         (unless_refused (read_relvars database.old) (assigned_in (read_relvars database.old) (assignments_of (read_relvars database.old).relvars (map read_item items.now)))) }
     ensures cost { steps.new ≤ steps.old + cost_of_assignments (read_relvars database.old) (assignments_of (read_relvars database.old).relvars (map read_item items.now)) }
 {
     database.perform(items.list.as_slice(), steps)?;
+    Ok(Vec::new(alloc))
+}
+
+/// Declares a log, which begins with this statement, and counts the statement; or refuses and changes nothing.
+pub fn opened(alloc: Global, log: LogData, database: &mut Database) -> Result<Vec<u8>, Refuse>
+    requires room { ((read_relvars database.old).accepted +ℤ pos 1) <ℤ greatest_whole }
+    requires typed { IsTypedLog (read_relvars database.old) log }
+    ensures { IsPerformed result (read_relvars database.old) (read_relvars database.new) (if_allowed (opened (read_relvars database.old) log)) }
+{
+    database.open_log(log)?;
     Ok(Vec::new(alloc))
 }

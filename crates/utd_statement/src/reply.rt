@@ -42,25 +42,19 @@ pub fn refusal(alloc: Global, number: u32, refuse: &Refuse) -> Result<Reply, Mem
     })
 }
 
-// The answer that is told by this text, or by this refusal. Where there is a text, the statement is accepted and counted, and no memory is
-// taken.
+// The answer that is told by this text, or by this refusal. Where there is a text, the statement is accepted, and no memory is taken.
 fn reply_with(
     alloc: Global,
-    database: &mut Database,
     number: u32,
     written: Result<Vec<u8>, Refuse>,
 ) -> Result<Reply, Memory>
-    requires room { (read_relvars database.old).accepted <ℤ greatest_whole }
-    ensures { (old : State) (a : Answer) → IsPerformed written old (read_relvars database.old) a → IsAnswered result number old (read_relvars database.new) a }
+    ensures { (old new : State) (a : Answer) → IsPerformed written old new a → IsAnswered result number old new a }
 {
     match written {
-        Ok(text) => {
-            database.accept();
-            Ok(Reply {
-                text,
-                accepted: true,
-            })
-        }
+        Ok(text) => Ok(Reply {
+            text,
+            accepted: true,
+        }),
         Err(Refuse::Memory) => Err(Memory),
         Err(refuse) => refusal(alloc, number, &refuse),
     }
@@ -74,13 +68,13 @@ fn answer_to_tree<L: Ledger>(
     statement: &Statement,
     steps: &mut Steps<L>,
 ) -> Result<Reply, Memory>
-    requires room { (read_relvars database.old).accepted <ℤ greatest_whole }
+    requires room { ((read_relvars database.old).accepted +ℤ pos 1) <ℤ greatest_whole }
     ensures answered { IsAnswered result number (read_relvars database.old) (read_relvars database.new)
         (of_tree (read_relvars database.old) (read_statement statement.now)) }
     ensures cost { steps.new ≤ steps.old + cost_of_tree (read_relvars database.old) (read_statement statement.now) }
 {
     let written = performed(alloc, statement, database, steps);
-    reply_with(alloc, database, number, written)
+    reply_with(alloc, number, written)
 }
 
 // The answer to a statement that is read. The text of a declaration is kept before it is performed, and goes again where it is refused.
@@ -93,7 +87,7 @@ fn answer_to_statement<L: Ledger>(
     text: &[u8],
     steps: &mut Steps<L>,
 ) -> Result<Reply, Memory>
-    requires room { (read_relvars database.old).accepted <ℤ greatest_whole }
+    requires room { ((read_relvars database.old).accepted +ℤ pos 1) <ℤ greatest_whole }
     ensures answered { IsAnswered result number (read_relvars database.old) (read_relvars database.new)
         (of_tree (read_relvars database.old) (read_statement statement.now)) }
     ensures kept { IfOk result (λ reply. texts.new ≡ settled (keeping_of (read_statement statement.now)) (without_gaps text.now) reply.accepted texts.old) }
@@ -116,7 +110,7 @@ fn answer_by_tree<L: Ledger>(
     steps: &mut Steps<L>,
 ) -> Result<Reply, Memory>
     requires start { start.line + start.column + length text.now ≤ 2 ^ 32 - 1 }
-    requires room { (read_relvars database.old).accepted <ℤ greatest_whole }
+    requires room { ((read_relvars database.old).accepted +ℤ pos 1) <ℤ greatest_whole }
     ensures answered { IfOk result (λ reply. IsAnswerTo start text.now number (read_relvars database.old) (read_relvars database.new) texts.old texts.new reply) }
     ensures stays { OnErr result (read_relvars database.new ≡ read_relvars database.old) }
     ensures cost { TakesAtMost start text.now (read_relvars database.old) steps.old steps.new }
@@ -143,14 +137,14 @@ pub fn answer_to_text<L: Ledger>(
     steps: &mut Steps<L>,
 ) -> Result<Reply, Memory>
     requires start { start.line + start.column + length text.now ≤ 2 ^ 32 - 1 }
-    requires room { (read_relvars database.old).accepted <ℤ greatest_whole }
+    requires room { ((read_relvars database.old).accepted +ℤ pos 1) <ℤ greatest_whole }
     ensures answered { IfOk result (λ reply. IsAnswerTo start text.now number (read_relvars database.old) (read_relvars database.new) texts.old texts.new reply) }
     ensures stays { OnErr result (read_relvars database.new ≡ read_relvars database.old) }
     ensures count { (read_relvars database.new).accepted ≤ℤ ((read_relvars database.old).accepted +ℤ pos 1) }
     ensures cost { TakesAtMost start text.now (read_relvars database.old) steps.old steps.new }
 {
     match bring(alloc, text, database, steps) {
-        Some(written) => reply_with(alloc, database, number, written),
+        Some(written) => reply_with(alloc, number, written),
         None => answer_by_tree(alloc, database, texts, number, text, start, steps),
     }
 }

@@ -8,35 +8,26 @@ use Rattle.utd_statement.specs.Bringing.{IsDoneBy, IsTried}
 use Rattle.utd_statement.specs.Costs.{TakesAtMost}
 use Rattle.utd_statement.specs.Replies.{IsAnswerTo}
 use Rattle.utd_statement.proofs.AnswerLemmas.{rows_answered, rows_paid, state_stays}
-use Rattle.utd_statement.proofs.CountedLemmas.{answered-count, performed-count, replied-count}
+use Rattle.utd_statement.proofs.CountedLemmas.{answered-count, replied-count}
 use Rattle.utd_statement.proofs.reply.answer_to_text.Goals as goal
-
-pub reply_with-requires : goal.reply_with-requires
-reply_with-requires g c =
-    let old = read_relvars c.args.database.now in
-    let new = read_relvars c.bring.new.database in
-    let done : IsDoneBy c.args.start c.args.text.now c.in-Some.written old new c.args.steps.now c.bring.new.steps =
-    subst (λ (o : Option (Result (Vec ℕ Global) Refuse)). IsTried c.args.start c.args.text.now o old new c.args.steps.now c.bring.new.steps) c.in-Some.is (c.bring.ensures c.args.start) in
-    record { room = subst (λ (n : ℤ). n <ℤ greatest_whole) (sym (performed-count c.in-Some.written old new done.tree done.performed)) c.requires.room }
 
 pub returns-in-Some : goal.returns-in-Some
 returns-in-Some g c =
     let start = c.args.start in
     let bytes = c.args.text.now in
     let old = read_relvars c.args.database.now in
-    let mid = read_relvars c.bring.new.database in
-    let new = read_relvars c.reply_with.new.database in
+    let new = read_relvars c.bring.new.database in
     let before = c.args.steps.now in
     let now = c.bring.new.steps in
     let written = c.in-Some.written in
-    let done : IsDoneBy start bytes written old mid before now =
-    subst (λ (o : Option (Result (Vec ℕ Global) Refuse)). IsTried start bytes o old mid before now) c.in-Some.is (c.bring.ensures start) in
-    let answered = c.reply_with.ensures old (of_tree old done.tree) done.performed in
+    let done : IsDoneBy start bytes written old new before now =
+    subst (λ (o : Option (Result (Vec ℕ Global) Refuse)). IsTried start bytes o old new before now) c.in-Some.is (c.bring.ensures start) in
+    let answered = c.reply_with.ensures old new (of_tree old done.tree) done.performed in
     record {
-      answered = rows_answered start bytes written old mid new before now c.args.number c.args.texts.now c.reply_with.result done answered;
+      answered = rows_answered start bytes written old new new before now c.args.number c.args.texts.now c.reply_with.result done answered;
       stays = state_stays c.reply_with.result c.args.number old new (of_tree old done.tree) answered;
       count = replied-count c.reply_with.result c.args.number old new done.tree answered;
-      cost = rows_paid start bytes written old mid before now done;
+      cost = rows_paid start bytes written old new before now done;
     }
 
 pub answer_by_tree-requires-clause-room : goal.answer_by_tree-requires-clause-room
