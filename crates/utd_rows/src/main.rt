@@ -19,7 +19,7 @@ use crate::scripts::right_rows;
 use std::io;
 
 /// The files of data/, by subject.
-const FILES: [&str; 52] = [
+const FILES: [&str; 53] = [
     "affected.txt",
     "arranged.txt",
     "ask.txt",
@@ -47,6 +47,7 @@ const FILES: [&str; 52] = [
     "list_constraint.txt",
     "list_four.txt",
     "literal.txt",
+    "logs.txt",
     "many.txt",
     "moment.txt",
     "name.txt",
