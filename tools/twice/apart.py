@@ -36,4 +36,19 @@ APART = {
        for here, there in (('In_united', 'In-united'), ('In_subtracted', 'In-subtracted'), ('fewer_left', 'fewer_left'), ('all_left', 'all_left'))},
     frozenset({('crates/log_turns/proofs/TurnedLemmas.antt', 'refused_more'), ('crates/change_rows/proofs/InsertionLemmas.antt', 'smaller_refused')}):
         'neither stands on the other; its place is relation_core, on which nearly all others stand',
+    frozenset({('crates/relvar_logs/src/counting.rt', 'has_log'), ('crates/utd_session/src/logs.rt', 'has_log')}):
+        'utd_session does not stand on relvar_logs; the upper one goes when utd_session is next opened',
+    frozenset({('crates/assign_core/proofs/LogLemmas.antt', 'unbroken'), ('crates/dump_laws/proofs/AssignedLaws.antt', 'none-broken')}):
+        'the crate below keeps it to itself; the upper one goes when assign_core is next opened',
+    frozenset({('crates/assign_core/proofs/LogLemmas.antt', 'and-false'), ('crates/constant_texts/proofs/QuietLemmas.antt', 'never')}):
+        'neither stands on the other; its place is base_core, on which all others stand',
+    **{frozenset({('crates/relvar_logs/proofs/NextLemmas.antt', lower), (f'crates/assign_core/proofs/{upper[0]}.antt', upper[1])}):
+       'the upper one goes when assign_core is next opened'
+       for lower, upper in (('turned-name', ('NameLemmas', 'turned')), ('change_first', ('TouchLemmas', 'found_change')), ('change_none', ('TouchLemmas', 'absent_change')))},
+    frozenset({('crates/relvar_logs/proofs/OpeningLemmas.antt', 'distinct-later'), ('crates/assign_core/proofs/NameLemmas.antt', 'distinct_later')}):
+        'the crate below keeps it to itself; the upper one goes when relvar_logs is next opened',
+    frozenset({('crates/declaration_typing/proofs/LogLaws.antt', 'base-declared'), ('crates/update_core/proofs/NameLemmas.antt', 'base-declared')}):
+        'neither stands on the other; its place is meaning_core, on which nearly all others stand',
+    frozenset({('crates/meaning_core/proofs/ElsewhereLemmas.antt', 'each-append'), ('crates/meaning_laws/proofs/EntriesFound.antt', 'each-append')}):
+        'the one is of a module with a second parameter; the upper one goes when meaning_laws is next opened',
 }
