@@ -115,7 +115,7 @@ def table_of(names, name, heading, constraints):
 
 
 def declare_log(names, *parts):
-    raise Refusal('E01', 'a log is read, and not yet kept')
+    raise Refusal('E01', 'a log has no form in SQL')
 
 
 def declare_relvar(names, name, form):
