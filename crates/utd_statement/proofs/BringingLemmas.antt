@@ -4,13 +4,12 @@
 use Rattle.std.proofs.Common.{◌≡◌, ◌≤◌, ◌+◌, ℕ, Bool, true, false, List, [], ◌∷◌, Option, Some, None, Result, Ok, Err, Vec, Global, refl, sym, ap, ◌∙◌, subst, arith}
 use Rattle.point_core.specs.declared.fault.Place.{Place}
 use Rattle.value_core.specs.declared.refuse.Refuse.{Refuse}
-use Rattle.value_core.specs.declared.refuse.Refuse.TheVariants.{Plain, At, Broken, Memory}
 use Rattle.value_core.specs.Values.{Name, Heading, Relation}
 use Rattle.tree_core.specs.Relvars.{Entries, State}
 use Rattle.meaning_core.specs.Declarations.{counted}
 use Rattle.meaning_core.specs.Logs.{has_log}
 use Rattle.utd_syntax.specs.Plain.{Word, LiteralP, StatementP}
-use Rattle.assign_core.specs.Assignments.{assigned_in, IsRefusedFor}
+use Rattle.assign_core.specs.Assignments.{assigned_in}
 use Rattle.assign_core.specs.Costs.{cost_of_assignments}
 use Rattle.assign_core.specs.Logs.{counted_if, is_brought}
 use Rattle.assign_core.specs.NewRows.{Arriving, brought_cost, brought_in, IsAloneIf, IsBaseWith, IsBrought, IsFoundIf, IsGivenTo, IsListFor, IsPaidFor, IsToldOf, StaysUnless, TakesNoneIf}

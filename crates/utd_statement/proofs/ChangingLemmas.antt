@@ -10,7 +10,7 @@ use Rattle.tree_core.specs.Relvars.{Entries, State}
 use Rattle.meaning_core.specs.Declarations.{counted}
 use Rattle.assign_core.specs.Assignments.{assigned_in, IsAssigned, IsDone, IsRefusedFor}
 use Rattle.assign_core.specs.Logs.{opened}
-use Rattle.utd_statement.specs.Answers.{Answer, Changed, if_allowed, unless_refused}
+use Rattle.utd_statement.specs.Answers.{if_allowed, unless_refused}
 use Rattle.utd_statement.specs.Replies.{IsPerformed, IsRefusedWith}
 
 pub refused_with : (state : State) (refuse : Refuse) (meant : Result Entries Refuse) → IsRefusedFor refuse meant → IsRefusedWith refuse (unless_refused state meant)

@@ -11,7 +11,9 @@ ghost use Rattle.utd_statement.specs.Answers.{of_checked, unless_fault, Answer};
 ghost use Rattle.utd_statement.specs.Costs.{cost_of_checked, cost_of_tree};
 ghost use Rattle.utd_statement.specs.Replies.{IsMade, IsPerformed};
 
-use crate::changing::{assigned, constrained, declared, history_declared, opened, removed, unconstrained};
+use crate::changing::{
+    assigned, constrained, declared, history_declared, opened, removed, unconstrained,
+};
 use algebra_core::{eval, test};
 use assign_core::Database;
 use point_core::Steps;

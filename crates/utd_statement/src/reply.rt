@@ -43,11 +43,7 @@ pub fn refusal(alloc: Global, number: u32, refuse: &Refuse) -> Result<Reply, Mem
 }
 
 // The answer that is told by this text, or by this refusal. Where there is a text, the statement is accepted, and no memory is taken.
-fn reply_with(
-    alloc: Global,
-    number: u32,
-    written: Result<Vec<u8>, Refuse>,
-) -> Result<Reply, Memory>
+fn reply_with(alloc: Global, number: u32, written: Result<Vec<u8>, Refuse>) -> Result<Reply, Memory>
     ensures { (old new : State) (a : Answer) → IsPerformed written old new a → IsAnswered result number old new a }
 {
     match written {

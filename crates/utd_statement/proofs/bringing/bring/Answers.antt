@@ -1,4 +1,4 @@
-use Rattle.std.proofs.Common.{◌≡◌, List, sym, ap, subst}
+use Rattle.std.proofs.Common.{List, ap, subst}
 use Rattle.value_core.specs.declared.list.OrdinalNames.{OrdinalNames}
 use Rattle.tree_core.specs.Relvars.{State, read_relvars}
 use Rattle.plain_rows.specs.Brought.{bringing_of, IsBrought}

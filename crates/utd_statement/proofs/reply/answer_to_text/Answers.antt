@@ -1,4 +1,4 @@
-use Rattle.std.proofs.Common.{◌≡◌, ◌<ℤ◌, ℕ, ℤ, Option, Result, Vec, Global, IfOk, sym, subst}
+use Rattle.std.proofs.Common.{◌≡◌, ◌<ℤ◌, ◌+ℤ◌, pos, ℕ, Option, Result, Vec, Global, IfOk, sym, subst}
 use Rattle.std.specs.Prelude.{OnErr}
 use Rattle.point_core.specs.Whole.{greatest_whole}
 use Rattle.value_core.specs.declared.refuse.Refuse.{Refuse}
@@ -33,7 +33,7 @@ returns-in-Some g c =
 pub answer_by_tree-requires-clause-room : goal.answer_by_tree-requires-clause-room
 answer_by_tree-requires-clause-room g c =
     let left = subst (λ (o : Option (Result (Vec ℕ Global) Refuse)). IsTried c.args.start c.args.text.now o (read_relvars c.args.database.now) (read_relvars c.bring.new.database) c.args.steps.now c.bring.new.steps) c.in-None.is (c.bring.ensures c.args.start) in
-    subst (λ (s : State). s.accepted <ℤ greatest_whole) (sym left.0) c.requires.room
+    subst (λ (s : State). (s.accepted +ℤ pos 1) <ℤ greatest_whole) (sym left.0) c.requires.room
 
 pub returns-in-None : goal.returns-in-None
 returns-in-None g c =
