@@ -1,7 +1,8 @@
 // Logs as they are stored.
-ghost use Rattle.std.specs.Prelude.{◌≡◌, ◌<ℤ◌, ◌≤ℤ◌, IfOk};
-ghost use Rattle.value_core.specs.Values.{IsRelation};
-ghost use Rattle.log_times.specs.Logs.{open_end};
+ghost use Rattle.std.specs.Prelude.{◌≡◌, ◌≤◌, ◌<ℤ◌, ◌≤ℤ◌, IfOk, OnErr, OnOk, length};
+ghost use Rattle.value_core.specs.Values.{most_rows, IsRelation};
+ghost use Rattle.relation_core.specs.Operators.{united};
+ghost use Rattle.log_times.specs.Logs.{open_end, IsStored};
 ghost use Rattle.log_times.specs.Kept.{log_relation, IsLog};
 
 use crate::closing::closed;
@@ -84,5 +85,19 @@ impl Log {
     {
         let _ = self.stored.rows();
         self.last = number;
+    }
+
+    /// Puts stored rows among those of the log, and brings it to the statement of the number `last`. A row that is there already stays. For want
+    /// of memory nothing changes.
+    pub fn insert(&mut self, more: Relation, last: i64) -> Result<(), Memory>
+        requires heading { more.heading ≡ self.old.stored.heading }
+        requires few { length (united self.old.stored.rows more.rows) ≤ most_rows }
+        requires stored { IsStored self.old.side last (united self.old.stored.rows more.rows) }
+        ensures gained { OnOk result (self.new ≡ record { side = self.old.side; last = last; stored = record { heading = self.old.stored.heading; rows = united self.old.stored.rows more.rows } }) }
+        ensures err { OnErr result (self.new ≡ self.old) }
+    {
+        self.stored.insert(more)?;
+        self.last = last;
+        Ok(())
     }
 }
