@@ -61,7 +61,7 @@ fewer_within xs ys up over within =
 pub fewer_left : (most : ℕ) (rows gone : List Row) → length rows ≤ most → most < length (subtracted rows gone) → ⊥
 fewer_left most rows gone few many = let less = length-filter_at_most (λ (x : Row). not (has row_cmp gone x)) rows in absurd (omega (arith, few, many, less))
 
-all_left : (rows : List Row) → rows ≡ subtracted rows []
+pub all_left : (rows : List Row) → rows ≡ subtracted rows []
 all_left [] = refl
 all_left (x ∷ rows) = ap (λ (l : List Row). x ∷ l) (all_left rows)
 

@@ -2,3 +2,4 @@ pub mod StandingLemmas
 pub mod ExchangeLemmas
 pub mod TurnedLemmas
 pub mod ValueLemmas
+pub mod ComingLemmas

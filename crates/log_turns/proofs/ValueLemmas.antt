@@ -1,5 +1,5 @@
 -- What stands in a stored log is what the log tells of its last statement.
-use Rattle.std.proofs.Common.{◌≡◌, ℕ, ℤ, ◌≤ℤ◌, ◌<ℤ◌, Bool, true, false, cond, List, [], ◌∷◌, map, filter, refl, sym, ap, ◌∙◌, arith}
+use Rattle.std.proofs.Common.{◌≡◌, ℕ, ℤ, Bool, true, false, cond, List, [], ◌∷◌, map, filter, refl, ap, ◌∙◌, arith}
 use Rattle.std.specs.List.{All}
 use Rattle.std.proofs.lemmas.Bool.{false_from_ne_true}
 use Rattle.std.proofs.lemmas.Int.{ints}
@@ -8,7 +8,7 @@ use Rattle.interval_core.specs.Members.{Span, has_member}
 use Rattle.interval_core.proofs.MembersLemmas.{has_member-between}
 use Rattle.value_core.specs.Values.{Row, rows_of}
 use Rattle.log_times.specs.Kept.{PlainLog, log_relation, IsLog}
-use Rattle.log_times.specs.Logs.{unstamped, statements, standing, is_standing, closed, closed_row, IsStored, IsStoredRow}
+use Rattle.log_times.specs.Logs.{unstamped, statements, standing, is_standing, closed, closed_row, IsStoredRow}
 use Rattle.log_times.specs.Told.{value_after}
 use Rattle.log_times.proofs.RowLemmas.{closed-standing, closed-ended, statements-put, unstamped-closed}
 

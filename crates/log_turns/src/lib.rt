@@ -3,8 +3,10 @@
 
 mod beginning;
 mod exchange;
+mod gaining;
 mod standing;
 mod turning;
 
 pub use beginning::begun;
+pub use gaining::gain;
 pub use turning::turned;
