@@ -1,5 +1,9 @@
 pub mod CountLemmas
 pub mod EntryLemmas
+pub mod FittingLemmas
+pub mod GainRoomLemmas
+pub mod GrownLemmas
 pub mod NextLemmas
 pub mod OpeningLemmas
+pub mod PassedLemmas
 pub mod TurningLemmas

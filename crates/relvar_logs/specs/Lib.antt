@@ -1,4 +1,7 @@
 pub mod Changes
+pub mod Fitting
+pub mod Gains
 pub mod Opening
+pub mod Passed
 pub mod Room
 pub mod Turning
