@@ -1,5 +1,6 @@
 -- Rows that a statement brings to a base relvar, and an assignment whose source has the value that the relvar gets: they come to the same.
 --     brought_assigned      the relvars after it, or why it is refused
+--     brought_beside      the same beside logs
 --     brought_costs      the rows take no more steps
 use Rattle.std.proofs.Common.{◌≡◌, ◌+◌, ◌≤◌, false, List, [], ◌∷◌, ap, ◌∙◌, arith, Ok}
 use Rattle.base_core.specs.Outcomes.{then_give}
@@ -11,6 +12,7 @@ use Rattle.tree_core.specs.Relvars.{Entries, State}
 use Rattle.meaning_core.specs.Logs.{has_log}
 use Rattle.assign_core.specs.Assignments.{source_value, with_target, evaluated, of_values, unless_rule_broken, assigned_in}
 use Rattle.assign_core.specs.Costs.{constraints_cost_of, rules_cost_of, source_cost, cost_of_assignments}
+use Rattle.assign_core.specs.Logs.{unless_full}
 use Rattle.assign_core.specs.NewRows.{Arriving, arriving_cost, value_brought, values_brought, brought_in, brought_cost}
 use Rattle.assign_core.proofs.LogLemmas.{assigned_without_logs}
 
@@ -21,6 +23,11 @@ module _ (s : State) (a : PlainAssignment) (way : Arriving) (at there : Place) (
 
   pub brought_assigned : has_log s.relvars ≡ false → assigned_in s (a ∷ []) ≡ brought_in s way at there a.target old given
   brought_assigned alone = assigned_without_logs s (a ∷ []) alone ∙ ap (λ (r : OrFault Entries). unless_rule_broken s.rules (of_values r)) brought_evaluated
+
+  -- the same where there are logs, which have room
+  pub brought_beside : unless_full (values_brought s.relvars way at there a.target old given) (brought_in s way at there a.target old given) ≡ brought_in s way at there a.target old given
+      → assigned_in s (a ∷ []) ≡ brought_in s way at there a.target old given
+  brought_beside room = ap (λ (r : OrFault Entries). unless_full r (unless_rule_broken s.rules (of_values r))) brought_evaluated ∙ room
 
   pub brought_costs : arriving_cost way there old given ≤ source_cost s.relvars s.relvars a → brought_cost s way at there a.target old given ≤ cost_of_assignments s (a ∷ [])
   brought_costs less =

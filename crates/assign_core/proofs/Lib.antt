@@ -9,6 +9,8 @@ pub mod CutLemmas
 pub mod DeclaredLemmas
 pub mod DifferenceLemmas
 pub mod ExchangeLemmas
+pub mod GainLemmas
+pub mod GainedLemmas
 pub mod RenewedLemmas
 pub mod TurnoverLemmas
 pub mod HashedLemmas

@@ -2,6 +2,7 @@
 --     turned_kept, log_kept      what a database keeps, with its logs turned, and with a log more
 --     alone_counted      a state without logs that is counted
 --     assigned_without_logs, assigned_after      assignments where there is no log, and those that are accepted
+--     brought_without_logs      rows that are brought where there is no log
 --     refused_full      why assignments are refused before the database constraints are asked
 --     next_changed, rows_changed      logs beside new values
 use Rattle.std.proofs.Common.{◌≡◌, ℕ, zero, suc, ◌+◌, ◌-◌, ◌<◌, ◌≤◌, ℤ, pos, ◌+ℤ◌, Bool, true, false, cond, nat_le, List, [], ◌∷◌, ◌++◌, map, length, refl, sym, ap, ◌∙◌, subst, arith, true≢false, Option, Some, None, Result, Ok, Err}
@@ -50,6 +51,7 @@ use Rattle.assign_core.specs.Exchanges.{with_ready, IsReady}
 use Rattle.assign_core.specs.declared.exchange.Ready.{Ready}
 use Rattle.relvar_logs.specs.Opening.{logs_fit, IsOpenedIn}
 use Rattle.assign_core.specs.Logs.{counted_if, have_room, if_room, opened, unless_full, KeepsLogs}
+use Rattle.assign_core.specs.NewRows.{Arriving, value_brought, values_brought, HasRoomFor}
 use Rattle.assign_core.proofs.DeclaredLemmas.{kept_more, rows_of_both, rules_stay, same_among}
 use Rattle.assign_core.proofs.RenewedLemmas.{bare_exchanged}
 
@@ -202,21 +204,28 @@ room-alone es none =
     and-true true = refl
     and-true false = refl
 
+-- what is meant where there is no log then
+full-alone : (rules : Rules) (v : OrFault Entries) → ((new : Entries) → v ≡ Ok new → has_log new ≡ false) → unless_full v (unless_rule_broken rules (of_values v)) ≡ unless_rule_broken rules (of_values v)
+full-alone rules (Err fault) none = refl
+full-alone rules (Ok new) none =
+    ap (λ (b : Bool). cond b (unless_rule_broken rules (kept_or_refused new)) (Err (Plain E46))) (room-alone new (none new refl)) ∙ few (nat_le (rows_of_all new) most_rows_in_all) refl
+  where
+    few : (b : Bool) → nat_le (rows_of_all new) most_rows_in_all ≡ b → cond b (unless_rule_broken rules (kept_or_refused new)) (Err (Plain E46)) ≡ unless_rule_broken rules (kept_or_refused new)
+    few true q = refl
+    few false q = sym (ap (λ (b : Bool). unless_rule_broken rules (cond b (unless_broken new (first_broken new)) (Err (Plain E46)))) q)
+
 -- assignments where there is no log
 pub assigned_without_logs : (s : State) (list : List PlainAssignment) → has_log s.relvars ≡ false → assigned_in s list ≡ unless_rule_broken s.rules (after_assignments s.relvars list)
-assigned_without_logs s list none = by (evaluated s.relvars s.relvars list) refl
-  where
-    few : (new : Entries) (b : Bool) → nat_le (rows_of_all new) most_rows_in_all ≡ b
-        → cond b (unless_rule_broken s.rules (kept_or_refused new)) (Err (Plain E46)) ≡ unless_rule_broken s.rules (kept_or_refused new)
-    few new true q = refl
-    few new false q = sym (ap (λ (b : Bool). unless_rule_broken s.rules (cond b (unless_broken new (first_broken new)) (Err (Plain E46)))) q)
+assigned_without_logs s list none =
+    full-alone s.rules (evaluated s.relvars s.relvars list) (λ new e. evaluated-logs s.relvars s.relvars new list e ∙ none)
 
-    by : (v : OrFault Entries) → evaluated s.relvars s.relvars list ≡ v → unless_full v (unless_rule_broken s.rules (of_values v)) ≡ unless_rule_broken s.rules (of_values v)
-    by (Err fault) e = refl
-    by (Ok new) e =
-        let alone : has_log new ≡ false = evaluated-logs s.relvars s.relvars new list e ∙ none in
-        ap (λ (b : Bool). cond b (unless_rule_broken s.rules (kept_or_refused new)) (Err (Plain E46))) (room-alone new alone)
-        ∙ few new (nat_le (rows_of_all new) most_rows_in_all) refl
+-- rows that are brought where there is no log
+pub brought_without_logs : (s : State) (way : Arriving) (name : Name) (rows : Relation) → has_log s.relvars ≡ false → HasRoomFor way s name rows
+brought_without_logs s way name rows none = λ old at there given_rows g.
+    full-alone s.rules (values_brought s.relvars way at there name old given_rows) (λ new e.
+    then-logs (value_brought way at there old given_rows) (λ value. Ok (with_target s.relvars name value)) new s.relvars
+    (λ value f. let same : with_target s.relvars name value ≡ new = cc in sym (ap has_log same) ∙ given-logs (Some name) (Some value) s.relvars) e
+    ∙ none)
 
 -- ---- with logs
 

@@ -2,6 +2,7 @@
 --     headings_same      headings that are compared
 --     sum_fits      rows that there is room for are not too many
 --     readied_so      what is told of the base relvar that is found
+--     is_new      the value that the relvar gets
 --     brought_of, paid_of      what is meant, and what it takes, wherever the rows are written
 --     refused_so, entered, refused_rule, entered_keeps      what becomes of the state
 use Rattle.std.proofs.Common.{◌≡◌, ℕ, ◌+◌, ◌≤◌, Bool, true, List, [], ◌∷◌, length, refl, sym, ap, ap₂, subst, ◌∙◌, arith, Option, Some, Result, Ok, Err}
@@ -126,7 +127,7 @@ module _ (s : State) (way : Arriving) (name : Name) (rows : Relation) (P : Resul
   same_old : (old : Relation) (given : List Row) → IsGivenTo s name rows old given → k.base.old ≡ old
   same_old old given g = same_base (relvar_named s.relvars name) k.base.old old k.base.constraints g.constraints k.base.there g.there
 
-  is_new : (old : Relation) (at there : Place) (given : List Row) → IsGivenTo s name rows old given → values_brought s.relvars way at there name old given ≡ Ok becoming
+  pub is_new : (old : Relation) (at there : Place) (given : List Row) → IsGivenTo s name rows old given → values_brought s.relvars way at there name old given ≡ Ok becoming
   is_new old at there given g =
       subst (λ (v : Relation). values_brought s.relvars way at there name v given ≡ Ok becoming) (same_old old given g) (values_so s.relvars way at there name k.base.old rows given k.base.headed g.are k.few k.fits)
 

@@ -50,7 +50,7 @@ step_more s n more made none step =
 
 -- ---- what is left
 
-left-none : (some : Name → Bool) (es : Entries) (name : Name) → some name ≡ true → relvar_named (left some es) name ≡ None
+pub left-none : (some : Name → Bool) (es : Entries) (name : Name) → some name ≡ true → relvar_named (left some es) name ≡ None
 left-none some [] name one = refl
 left-none some (e ∷ es) name one = by (some e.0) refl (left-none some es name one)
   where

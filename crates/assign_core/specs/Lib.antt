@@ -7,6 +7,7 @@ pub mod Costs
 pub mod Databases
 pub mod Differences
 pub mod Exchanges
+pub mod Gained
 pub mod Hashed
 pub mod Turnovers
 pub mod Insertions

@@ -4,8 +4,9 @@
 --     value_brought, values_brought      its value, and the relvars with it, or the fault of too many rows
 --     brought, brought_in      the relvars, or why they are refused; and in a state, whose database constraints are asked last
 --     joined_cost, brought_cost      the steps that the rows of both take, and all steps
---     IsBrought, IsFoundIf, IsAloneIf, StaysUnless, TakesNoneIf      answers
+--     IsBrought, IsFoundIf, StaysUnless, TakesNoneIf      answers
 --     IsToldOf, IsPaidFor      what is told of rows and what they take, wherever they are written
+--     HasRoomFor, HasRoomIf      what is meant of rows is so beside logs too
 use Rattle.std.specs.Prelude.{◌≡◌, ℕ, ◌+◌, ◌≤◌, Bool, true, false, List, length, Option, Some, Result, Ok, Err}
 use Rattle.base_core.specs.Outcomes.{then_give}
 use Rattle.point_core.specs.declared.fault.Place.{Place}
@@ -15,13 +16,13 @@ use Rattle.value_core.specs.declared.refuse.Refuse.{Refuse}
 use Rattle.value_core.specs.Values.{Name, Heading, Row, Relation, IsRelation, rows_of}
 use Rattle.relation_core.specs.Answers.{under}
 use Rattle.tree_core.specs.Relvars.{base, Entries, State, relvar_named}
-use Rattle.meaning_core.specs.Logs.{has_log}
 use Rattle.meaning_core.specs.Meanings.{limited}
 use Rattle.meaning_core.specs.Typing.{IsListIf}
 use Rattle.algebra_core.specs.Costs.{paid}
 use Rattle.assign_core.specs.Assignments.{with_target, of_values, unless_rule_broken, IsRefusedFor}
 use Rattle.assign_core.specs.Costs.{constraints_cost_of, rules_cost_of}
 use Rattle.assign_core.specs.Insertions.{united_in, united_cost}
+use Rattle.assign_core.specs.Logs.{unless_full}
 
 -- ---- what is meant
 
@@ -95,12 +96,6 @@ IsFoundIf (Ok true) s name heading = IsBaseWith s name heading
 IsFoundIf (Ok false) s name heading = Unit {0}
 IsFoundIf (Err refuse) s name heading = IsBaseWith s name heading
 
--- and only where there is no log
-abbrev pub IsAloneIf : Result Bool Refuse → State → Type 0
-IsAloneIf (Ok true) s = has_log s.relvars ≡ false
-IsAloneIf (Ok false) s = Unit {0}
-IsAloneIf (Err refuse) s = has_log s.relvars ≡ false
-
 -- unless rows are brought, the state stays
 abbrev pub StaysUnless : Result Bool Refuse → State → State → Type 0
 StaysUnless (Ok true) old new = Unit {0}
@@ -127,3 +122,16 @@ IsToldOf way result s new name rows = (old : Relation) (at there : Place) (given
 
 abbrev pub IsPaidFor : Arriving → State → Name → Relation → ℕ → ℕ → Type 0
 IsPaidFor way s name rows before after = (old : Relation) (at there : Place) (given : List Row) → IsGivenTo s name rows old given → after ≤ before + brought_cost s way at there name old given
+
+-- ---- beside logs
+
+-- what is meant of the rows is the same whether or not it is asked if the logs have room for them
+abbrev pub HasRoomFor : Arriving → State → Name → Relation → Type 0
+HasRoomFor way s name rows = (old : Relation) (at there : Place) (given : List Row) → IsGivenTo s name rows old given
+    → unless_full (values_brought s.relvars way at there name old given) (brought_in s way at there name old given) ≡ brought_in s way at there name old given
+
+-- rows are brought, or refused, only where that is so
+abbrev pub HasRoomIf : Arriving → Result Bool Refuse → State → Name → Relation → Type 0
+HasRoomIf way (Ok true) s name rows = HasRoomFor way s name rows
+HasRoomIf way (Ok false) s name rows = Unit {0}
+HasRoomIf way (Err refuse) s name rows = HasRoomFor way s name rows

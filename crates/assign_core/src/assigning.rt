@@ -15,10 +15,11 @@ ghost use Rattle.assign_core.specs.Databases.{IsKept};
 ghost use Rattle.assign_core.specs.Exchanges.{with_ready, IsReady};
 ghost use Rattle.assign_core.specs.Hashed.{AreHashed};
 ghost use Rattle.assign_core.specs.Logs.{counted_if, is_brought, unless_full, IsRoomFor};
-ghost use Rattle.assign_core.specs.NewRows.{IsAloneIf, IsFoundIf, IsListFor, IsPaidFor, IsToldOf, StaysUnless, TakesNoneIf};
+ghost use Rattle.assign_core.specs.NewRows.{HasRoomIf, IsFoundIf, IsListFor, IsPaidFor, IsToldOf, StaysUnless, TakesNoneIf};
 
 use crate::exchange::Ready;
 use crate::filling::fill;
+use crate::gaining::bring_logged;
 use crate::hashed::Hashed;
 use crate::logs::ready_logs;
 use crate::new_rows::{Coming, bring};
@@ -133,7 +134,8 @@ fn prepare_logged<L: Ledger>(
     Ok((ready, next))
 }
 
-/// Brings rows to a base relvar, and counts the statement. They are left where there is a log.
+/// Brings rows to a base relvar, and counts the statement. Where there are logs they are left, unless they are simply added and there is
+/// room for them in any case.
 pub(crate) fn bring_counted<L: Ledger>(
     alloc: Global,
     relvars: &mut Relvars,
@@ -150,7 +152,7 @@ pub(crate) fn bring_counted<L: Ledger>(
     requires listed { IsListFor rows.heading (way_of way) }
     ensures brought { (mid : State) × IsToldOf (way_of way.entry) result (read_relvars relvars.old) mid target.now rows × (read_relvars relvars.new ≡ counted_if (is_brought result) mid) }
     ensures found { IsFoundIf result (read_relvars relvars.old) target.now rows.heading }
-    ensures alone { IsAloneIf result (read_relvars relvars.old) }
+    ensures beside { HasRoomIf (way_of way.entry) result (read_relvars relvars.old) target.now rows }
     ensures stays { StaysUnless result (read_relvars relvars.old) (read_relvars relvars.new) }
     ensures none { TakesNoneIf result steps.old steps.new }
     ensures kept { IsKept (read_relvars relvars.new) }
@@ -159,9 +161,36 @@ pub(crate) fn bring_counted<L: Ledger>(
     ensures cost { IsPaidFor (way_of way.entry) (read_relvars relvars.old) target.now rows steps.old steps.new }
 {
     if has_log(relvars) {
-        drop(rows);
-        return Ok(false);
+        return bring_beside(alloc, relvars, hashed, target, way, rows, steps);
     }
+    bring_alone(alloc, relvars, hashed, target, way, rows, steps)
+}
+
+// Where there is no log.
+fn bring_alone<L: Ledger>(
+    alloc: Global,
+    relvars: &mut Relvars,
+    hashed: &mut Hashed,
+    target: &Name,
+    way: Coming<'_>,
+    rows: Relation,
+    steps: &mut Steps<L>,
+) -> Result<bool, Refuse>
+    requires kept { IsKept (read_relvars relvars.old) }
+    requires alone { has_log (read_relvars relvars.old).relvars ≡ false }
+    requires room { ((read_relvars relvars.old).accepted +ℤ pos 1) <ℤ greatest_whole }
+    requires hashed { AreHashed hashed.old (read_relvars relvars.old).relvars }
+    requires listed { IsListFor rows.heading (way_of way) }
+    ensures brought { (mid : State) × IsToldOf (way_of way.entry) result (read_relvars relvars.old) mid target.now rows × (read_relvars relvars.new ≡ counted_if (is_brought result) mid) }
+    ensures found { IsFoundIf result (read_relvars relvars.old) target.now rows.heading }
+    ensures beside { HasRoomIf (way_of way.entry) result (read_relvars relvars.old) target.now rows }
+    ensures stays { StaysUnless result (read_relvars relvars.old) (read_relvars relvars.new) }
+    ensures none { TakesNoneIf result steps.old steps.new }
+    ensures kept { IsKept (read_relvars relvars.new) }
+    ensures step { AreInStep (read_relvars relvars.new).accepted (read_relvars relvars.new).relvars }
+    ensures hashed { AreHashed hashed.new (read_relvars relvars.new).relvars }
+    ensures cost { IsPaidFor (way_of way.entry) (read_relvars relvars.old) target.now rows steps.old steps.new }
+{
     match bring(alloc, relvars, hashed, target, way, rows, steps) {
         Ok(true) => {
             count_alone(relvars);
@@ -169,6 +198,39 @@ pub(crate) fn bring_counted<L: Ledger>(
         }
         Ok(false) => Ok(false),
         Err(refuse) => Err(refuse),
+    }
+}
+
+// Where there are logs.
+fn bring_beside<L: Ledger>(
+    alloc: Global,
+    relvars: &mut Relvars,
+    hashed: &mut Hashed,
+    target: &Name,
+    way: Coming<'_>,
+    rows: Relation,
+    steps: &mut Steps<L>,
+) -> Result<bool, Refuse>
+    requires kept { IsKept (read_relvars relvars.old) }
+    requires step { AreInStep (read_relvars relvars.old).accepted (read_relvars relvars.old).relvars }
+    requires room { ((read_relvars relvars.old).accepted +ℤ pos 1) <ℤ greatest_whole }
+    requires hashed { AreHashed hashed.old (read_relvars relvars.old).relvars }
+    ensures brought { (mid : State) × IsToldOf (way_of way.entry) result (read_relvars relvars.old) mid target.now rows × (read_relvars relvars.new ≡ counted_if (is_brought result) mid) }
+    ensures found { IsFoundIf result (read_relvars relvars.old) target.now rows.heading }
+    ensures beside { HasRoomIf (way_of way.entry) result (read_relvars relvars.old) target.now rows }
+    ensures stays { StaysUnless result (read_relvars relvars.old) (read_relvars relvars.new) }
+    ensures none { TakesNoneIf result steps.old steps.new }
+    ensures kept { IsKept (read_relvars relvars.new) }
+    ensures step { AreInStep (read_relvars relvars.new).accepted (read_relvars relvars.new).relvars }
+    ensures hashed { AreHashed hashed.new (read_relvars relvars.new).relvars }
+    ensures cost { IsPaidFor (way_of way.entry) (read_relvars relvars.old) target.now rows steps.old steps.new }
+{
+    match way {
+        Coming::Insert(None) => bring_logged(alloc, relvars, hashed, target, rows, steps),
+        _ => {
+            drop(rows);
+            Ok(false)
+        }
     }
 }
 

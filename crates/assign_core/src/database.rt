@@ -15,7 +15,7 @@ ghost use Rattle.assign_core.specs.Costs.{cost_of_assignments};
 ghost use Rattle.assign_core.specs.Databases.{no_relvars, declared, IsKept};
 ghost use Rattle.assign_core.specs.Items.{assignments_of};
 ghost use Rattle.assign_core.specs.Logs.{counted_if, is_brought, opened};
-ghost use Rattle.assign_core.specs.NewRows.{joining, replacing, IsAloneIf, IsFoundIf, IsPaidFor, IsToldOf, StaysUnless, TakesNoneIf};
+ghost use Rattle.assign_core.specs.NewRows.{joining, replacing, HasRoomIf, IsFoundIf, IsPaidFor, IsToldOf, StaysUnless, TakesNoneIf};
 
 use crate::appending::append_all;
 use crate::assigning::{assign, bring_counted, count_alone};
@@ -163,7 +163,7 @@ impl Database {
         requires room { ((read_relvars self.old).accepted +ℤ pos 1) <ℤ greatest_whole }
         ensures brought { (mid : State) × IsToldOf replacing result (read_relvars self.old) mid target.now rows × (read_relvars self.new ≡ counted_if (is_brought result) mid) }
         ensures found { IsFoundIf result (read_relvars self.old) target.now rows.heading }
-        ensures alone { IsAloneIf result (read_relvars self.old) }
+        ensures beside { HasRoomIf replacing result (read_relvars self.old) target.now rows }
         ensures stays { StaysUnless result (read_relvars self.old) (read_relvars self.new) }
         ensures none { TakesNoneIf result steps.old steps.new }
         ensures cost { IsPaidFor replacing (read_relvars self.old) target.now rows steps.old steps.new }
@@ -183,7 +183,8 @@ impl Database {
     /// statement; or refuses and changes nothing.
     ///
     /// It is `Ok(false)`, with nothing changed and no step taken, where no base relvar of this name has the rows' heading, where it has
-    /// more than 100,000 rows with them, each counted, where the list is not one attribute, and where there is a log.
+    /// more than 100,000 rows with them, each counted, and where the list is not one attribute. Where there is a log, it is so too with any
+    /// list, where the relvar has several logs, and where base relvars or logs might have too many rows with these, each counted.
     pub fn insert_rows<L: Ledger>(
         &mut self,
         target: &Name,
@@ -195,7 +196,7 @@ impl Database {
         requires room { ((read_relvars self.old).accepted +ℤ pos 1) <ℤ greatest_whole }
         ensures brought { (mid : State) × IsToldOf (joining (option_map (λ l. l.now) commalist.entry)) result (read_relvars self.old) mid target.now rows × (read_relvars self.new ≡ counted_if (is_brought result) mid) }
         ensures found { IsFoundIf result (read_relvars self.old) target.now rows.heading }
-        ensures alone { IsAloneIf result (read_relvars self.old) }
+        ensures beside { HasRoomIf (joining (option_map (λ l. l.now) commalist.entry)) result (read_relvars self.old) target.now rows }
         ensures stays { StaysUnless result (read_relvars self.old) (read_relvars self.new) }
         ensures none { TakesNoneIf result steps.old steps.new }
         ensures cost { IsPaidFor (joining (option_map (λ l. l.now) commalist.entry)) (read_relvars self.old) target.now rows steps.old steps.new }

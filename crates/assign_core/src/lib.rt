@@ -14,6 +14,7 @@ mod dropping;
 mod exchange;
 mod filling;
 mod finding;
+mod gaining;
 mod hashed;
 mod insertion;
 mod logs;

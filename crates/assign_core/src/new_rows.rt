@@ -109,8 +109,8 @@ fn ready_rows<L: Ledger>(
     Ok(Some(ready))
 }
 
-// The place and the value of the base relvar of the name, if there is one with the heading of the rows, and with room for them.
-fn base_for<'a>(
+/// The place and the value of the base relvar of the name, if there is one with the heading of the rows, and with room for them.
+pub(crate) fn base_for<'a>(
     relvars: &'a Relvars,
     target: &Name,
     way: Coming<'_>,

@@ -2,7 +2,7 @@ use Rattle.std.proofs.Common.{◌≡◌, subst, option_map}
 use Rattle.tree_core.specs.declared.relvar.Relvars.{Relvars}
 use Rattle.tree_core.specs.Relvars.{State, read_relvars}
 use Rattle.assign_core.specs.Logs.{counted_if, is_brought}
-use Rattle.assign_core.specs.NewRows.{joining, IsFoundIf, IsPaidFor, IsToldOf, StaysUnless, IsAloneIf}
+use Rattle.assign_core.specs.NewRows.{joining, HasRoomIf, IsFoundIf, IsPaidFor, IsToldOf, StaysUnless}
 use Rattle.assign_core.proofs.database.Database.insert_rows.Goals as goal
 
 pub returns-clause-brought : goal.returns-clause-brought
@@ -10,8 +10,8 @@ returns-clause-brought g c =
     subst (λ (r : Relvars). (mid : State) × IsToldOf (joining (option_map (λ l. l.now) c.args.commalist)) c.bring_counted.result (read_relvars r) mid c.args.target.now c.args.rows × (read_relvars c.bring_counted.new.relvars ≡ counted_if (is_brought c.bring_counted.result) mid))
     c.self.view_is c.bring_counted.ensures.brought
 
-pub returns-clause-alone : goal.returns-clause-alone
-returns-clause-alone g c = subst (λ (r : Relvars). IsAloneIf c.bring_counted.result (read_relvars r)) c.self.view_is c.bring_counted.ensures.alone
+pub returns-clause-beside : goal.returns-clause-beside
+returns-clause-beside g c = subst (λ (r : Relvars). HasRoomIf (joining (option_map (λ l. l.now) c.args.commalist)) c.bring_counted.result (read_relvars r) c.args.target.now c.args.rows) c.self.view_is c.bring_counted.ensures.beside
 
 pub returns-clause-found : goal.returns-clause-found
 returns-clause-found g c = subst (λ (r : Relvars). IsFoundIf c.bring_counted.result (read_relvars r) c.args.target.now c.args.rows.heading) c.self.view_is c.bring_counted.ensures.found

@@ -1,0 +1,105 @@
+use Rattle.std.proofs.Common.{refl, sym, subst, None, Bool, Ok}
+use Rattle.tree_core.specs.Relvars.{State, read_relvars}
+use Rattle.meaning_core.specs.Logs.{AreInStep}
+use Rattle.assign_core.specs.Databases.{IsKept}
+use Rattle.assign_core.specs.Hashed.{AreHashed}
+use Rattle.assign_core.specs.NewRows.{joining, IsToldOf}
+use Rattle.assign_core.proofs.GainedLemmas.{gains, has_room_for, is_back, once, within}
+use Rattle.assign_core.proofs.LogLemmas.{hashed_turned, turned_kept}
+use Rattle.assign_core.proofs.gaining.bring_gained.Goals as goal
+
+pub count_gain-requires-clause-once : goal.count_gain-requires-clause-once
+count_gain-requires-clause-once g c =
+    let s = read_relvars c.args.relvars.now in
+    let mid = read_relvars c.bring.new.relvars in
+    let gain = c.requires.gain in
+    let told = subst (λ (b : Bool). IsToldOf (joining None) (Ok b) s mid c.args.target.now c.args.rows) c.in-Ok-true.field-0-test c.in-Ok-true.ensures.brought in
+    once s c.args.target.now c.args.rows c.args.gain.now.at gain.old c.requires.kept c.requires.step gain.may mid told
+
+pub count_gain-requires-clause-gaining : goal.count_gain-requires-clause-gaining
+count_gain-requires-clause-gaining g c =
+    let s = read_relvars c.args.relvars.now in
+    let mid = read_relvars c.bring.new.relvars in
+    let gain = c.requires.gain in
+    let told = subst (λ (b : Bool). IsToldOf (joining None) (Ok b) s mid c.args.target.now c.args.rows) c.in-Ok-true.field-0-test c.in-Ok-true.ensures.brought in
+    gains s c.args.target.now c.args.rows c.args.gain.now.at gain.old c.requires.kept c.requires.step gain.may mid told c.args.gain.now.come gain.headed gain.new
+
+pub take_back-requires : goal.take_back-requires
+take_back-requires g c =
+    let s = read_relvars c.args.relvars.now in
+    let mid = read_relvars c.bring.new.relvars in
+    let gain = c.requires.gain in
+    let told = subst (λ (b : Bool). IsToldOf (joining None) (Ok b) s mid c.args.target.now c.args.rows) c.in-Ok-true.field-0-test c.in-Ok-true.ensures.brought in
+    record {
+      at = within s c.args.target.now c.args.rows c.args.gain.now.at gain.old c.requires.kept c.requires.step gain.may mid told c.count_gain.new.relvars.list.entries
+          (λ i. (c.in-Err-count_gain.ensures.err i).relvars);
+    }
+
+pub returns-in-Ok-clause-brought : goal.returns-in-Ok-clause-brought
+returns-in-Ok-clause-brought g c =
+    let s = read_relvars c.args.relvars.now in
+    let mid = read_relvars c.bring.new.relvars in
+    let told = subst (λ (b : Bool). IsToldOf (joining None) (Ok b) s mid c.args.target.now c.args.rows) c.in-Ok-true.field-0-test c.in-Ok-true.ensures.brought in
+    (mid, told, c.in-Ok.ensures.counted)
+
+pub returns-in-Ok-clause-beside : goal.returns-in-Ok-clause-beside
+returns-in-Ok-clause-beside g c =
+    let gain = c.requires.gain in
+    has_room_for (read_relvars c.args.relvars.now) c.args.target.now c.args.rows c.args.gain.now.at gain.old c.requires.kept c.requires.step gain.may
+
+pub returns-in-Ok-clause-kept : goal.returns-in-Ok-clause-kept
+returns-in-Ok-clause-kept g c = subst IsKept (sym c.in-Ok.ensures.counted) (turned_kept (read_relvars c.bring.new.relvars) c.in-Ok-true.ensures.kept)
+
+pub returns-in-Ok-clause-hashed : goal.returns-in-Ok-clause-hashed
+returns-in-Ok-clause-hashed g c =
+    let mid = read_relvars c.bring.new.relvars in
+    subst (λ (t : State). AreHashed c.bring.new.hashed t.relvars) (sym c.in-Ok.ensures.counted) (hashed_turned c.bring.new.hashed mid.relvars c.in-Ok-true.ensures.hashed)
+
+pub returns-in-Err-count_gain-clause-brought : goal.returns-in-Err-count_gain-clause-brought
+returns-in-Err-count_gain-clause-brought g c =
+    let s = read_relvars c.args.relvars.now in
+    let mid = read_relvars c.bring.new.relvars in
+    let gain = c.requires.gain in
+    let told = subst (λ (b : Bool). IsToldOf (joining None) (Ok b) s mid c.args.target.now c.args.rows) c.in-Ok-true.field-0-test c.in-Ok-true.ensures.brought in (
+      s,
+      (λ old at there given k. (tt, refl)),
+      is_back s c.args.target.now c.args.rows c.args.gain.now.at gain.old c.requires.kept c.requires.step gain.may mid told c.args.gain.now.come c.count_gain.new.relvars c.take_back.new.relvars gain.new
+          c.in-Err-count_gain.ensures.err c.take_back.ensures.list c.take_back.ensures.ordinals c.take_back.ensures.rules c.take_back.ensures.accepted,
+    )
+
+pub returns-in-Err-count_gain-clause-stays : goal.returns-in-Err-count_gain-clause-stays
+returns-in-Err-count_gain-clause-stays g c =
+    let s = read_relvars c.args.relvars.now in
+    let mid = read_relvars c.bring.new.relvars in
+    let gain = c.requires.gain in
+    let told = subst (λ (b : Bool). IsToldOf (joining None) (Ok b) s mid c.args.target.now c.args.rows) c.in-Ok-true.field-0-test c.in-Ok-true.ensures.brought in
+    is_back s c.args.target.now c.args.rows c.args.gain.now.at gain.old c.requires.kept c.requires.step gain.may mid told c.args.gain.now.come c.count_gain.new.relvars c.take_back.new.relvars gain.new
+    c.in-Err-count_gain.ensures.err c.take_back.ensures.list c.take_back.ensures.ordinals c.take_back.ensures.rules c.take_back.ensures.accepted
+
+pub returns-in-Err-count_gain-clause-kept : goal.returns-in-Err-count_gain-clause-kept
+returns-in-Err-count_gain-clause-kept g c =
+    let s = read_relvars c.args.relvars.now in
+    let mid = read_relvars c.bring.new.relvars in
+    let gain = c.requires.gain in
+    let told = subst (λ (b : Bool). IsToldOf (joining None) (Ok b) s mid c.args.target.now c.args.rows) c.in-Ok-true.field-0-test c.in-Ok-true.ensures.brought in
+    subst IsKept (sym (is_back s c.args.target.now c.args.rows c.args.gain.now.at gain.old c.requires.kept c.requires.step gain.may mid told c.args.gain.now.come c.count_gain.new.relvars c.take_back.new.relvars gain.new
+    c.in-Err-count_gain.ensures.err c.take_back.ensures.list c.take_back.ensures.ordinals c.take_back.ensures.rules c.take_back.ensures.accepted)) c.requires.kept
+
+pub returns-in-Err-count_gain-clause-step : goal.returns-in-Err-count_gain-clause-step
+returns-in-Err-count_gain-clause-step g c =
+    let s = read_relvars c.args.relvars.now in
+    let mid = read_relvars c.bring.new.relvars in
+    let gain = c.requires.gain in
+    let told = subst (λ (b : Bool). IsToldOf (joining None) (Ok b) s mid c.args.target.now c.args.rows) c.in-Ok-true.field-0-test c.in-Ok-true.ensures.brought in
+    subst (λ (t : State). AreInStep t.accepted t.relvars) (sym (is_back s c.args.target.now c.args.rows c.args.gain.now.at gain.old c.requires.kept c.requires.step gain.may mid told c.args.gain.now.come c.count_gain.new.relvars c.take_back.new.relvars gain.new
+    c.in-Err-count_gain.ensures.err c.take_back.ensures.list c.take_back.ensures.ordinals c.take_back.ensures.rules c.take_back.ensures.accepted)) c.requires.step
+
+pub returns-in-Err-count_gain-clause-beside : goal.returns-in-Err-count_gain-clause-beside
+returns-in-Err-count_gain-clause-beside g c =
+    let gain = c.requires.gain in
+    has_room_for (read_relvars c.args.relvars.now) c.args.target.now c.args.rows c.args.gain.now.at gain.old c.requires.kept c.requires.step gain.may
+
+pub returns-in-Err-clause-beside : goal.returns-in-Err-clause-beside
+returns-in-Err-clause-beside g c =
+    let gain = c.requires.gain in
+    has_room_for (read_relvars c.args.relvars.now) c.args.target.now c.args.rows c.args.gain.now.at gain.old c.requires.kept c.requires.step gain.may
