@@ -36,8 +36,7 @@ APART = {
        for here, there in (('In_united', 'In-united'), ('In_subtracted', 'In-subtracted'), ('fewer_left', 'fewer_left'), ('all_left', 'all_left'))},
     frozenset({('crates/log_turns/proofs/TurnedLemmas.antt', 'refused_more'), ('crates/change_rows/proofs/InsertionLemmas.antt', 'smaller_refused')}):
         'neither stands on the other; its place is relation_core, on which nearly all others stand',
-    frozenset({('crates/relvar_logs/src/counting.rt', 'has_log'), ('crates/utd_session/src/logs.rt', 'has_log')}):
-        'utd_session does not stand on relvar_logs; the upper one goes when utd_session is next opened',
+    frozenset({('crates/u_constraints/proofs/HistoryLemmas.antt', 'parts_length'), ('crates/log_laws/proofs/RowLengths.antt', 'long-part')}): LOWER,
     frozenset({('crates/assign_core/proofs/LogLemmas.antt', 'unbroken'), ('crates/dump_laws/proofs/AssignedLaws.antt', 'none-broken')}):
         'the crate below keeps it to itself; the upper one goes when assign_core is next opened',
     frozenset({('crates/assign_core/proofs/LogLemmas.antt', 'and-false'), ('crates/constant_texts/proofs/QuietLemmas.antt', 'never')}):

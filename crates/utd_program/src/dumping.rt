@@ -16,11 +16,12 @@ use crate::outcome::without_memory;
 use assign_core::Database;
 use dump_core::{DumpRefuse, Texts, dump};
 use point_core::{Memory, Steps};
+use relvar_logs::has_log;
 use std::alloc::Global;
 use std::sync::ledger::Ledger;
 use utd_gen::script_of;
 use utd_io::{PureSink, PureSource, Sink, Source, write_all};
-use utd_session::{Ran, Status, has_log, run_script};
+use utd_session::{Ran, Status, run_script};
 use utd_words::Script;
 
 // Writes the bytes of a dump, and gives the status after that: the one before, unless the write fails.
