@@ -63,7 +63,7 @@ all-typed s items made are =
 
 -- ---- one value
 
-abbrev names_in : Entries → List Name
+abbrev pub names_in : Entries → List Name
 names_in es = map (λ e. e.0) es
 
 -- where no entry has the name
@@ -74,7 +74,7 @@ bare-others name value (e ∷ es) others turn =
     ap₂ (λ (r : PlainRelvar) (l : Entries). (e.0, bare r) ∷ l) (ap (λ (b : Bool). cond b (with_value value e.1) e.1) (turn e.0 others.0)) (bare-others name value es others.1 turn)
 
 -- the value has the heading of the relvar that has the name
-bare-given : (name : Name) (value : Relation) (es : Entries) → IsDistinct bytes_eq (names_in es) → value.heading ≡ heading_if (relvar_named es name)
+pub bare-given : (name : Name) (value : Relation) (es : Entries) → IsDistinct bytes_eq (names_in es) → value.heading ≡ heading_if (relvar_named es name)
     → bare_all (given (Some name) (Some value) es) ≡ bare_all es
 unfolding IsDistinct
 bare-given name value [] differ headed = refl
@@ -94,7 +94,7 @@ bare-given name value (e ∷ es) differ headed = by (bytes_eq e.0 name) refl (ba
 -- ---- all values
 
 module _ (s : State) (made : IsWellMade s) where
-  names-differ : IsDistinct bytes_eq (names_in s.relvars)
+  pub names-differ : IsDistinct bytes_eq (names_in s.relvars)
   names-differ = distinct-later bytes_eq (map (λ r. r.0) s.rules ++ map (λ o. o.name) s.ordinals) (names_in s.relvars) made.different
 
   evaluated-rows : (list : List PlainAssignment) (new last : Entries) → All (IsTypedAssignment s) list → bare_all new ≡ bare_all s.relvars → evaluated s.relvars new list ≡ Ok last
@@ -122,7 +122,7 @@ module _ (s : State) (made : IsWellMade s) where
       by true f = none-broken new last (first_broken new) f
       by false f = absurd (never-given last (Plain E46) (Err (Plain E46)) refl f)
 
-  from-values : (r : OrFault Entries) (last : Entries) → of_values r ≡ Ok last → r ≡ Ok last
+  pub from-values : (r : OrFault Entries) (last : Entries) → of_values r ≡ Ok last → r ≡ Ok last
   from-values (Ok new) last e = ap Ok (few-kept new last e)
   from-values (Err fault) last e = absurd (never-given last (At fault) (Err (At fault)) refl e)
 
