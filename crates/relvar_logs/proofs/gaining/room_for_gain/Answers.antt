@@ -16,6 +16,7 @@ loop-at-preserved c =
     let count = c.in_ok-count.count in
     let one : suc at ≡ at + 1 = omega arith in
     let less : c.in_ok-count.count ≤ c.loop-at.room = c.if-count-room.false in
+    let single : c.loop-at.own + c.logs_at-own.result ≤ 1 = omega arith in
     let rows = rows_more name more es at count c.in_ok-count.ensures in
     let logs = logs_more name more es at c.logs_at-own.result c.logs_at-own.ensures.own in
     let before = c.loop-at.invariant.rows in
@@ -23,7 +24,7 @@ loop-at-preserved c =
     record {
       rows = subst (λ (k : ℕ). rows_of_logs (take k (map read_entry c.args.relvars.now.list.entries)) + c.args.more + (c.loop-at.room - c.in_ok-count.count) ≤ c.args.most) one (omega (arith, rows, less, before));
       logs = subst (λ (k : ℕ). length (logs_of c.args.name.now (take k (map read_entry c.args.relvars.now.list.entries))) ≤ c.loop-at.own + c.logs_at-own.result) one (omega (arith, logs, told));
-      one = c.if-own-gt1.false;
+      one = single;
       fit = subst (λ (k : ℕ). (i : ℕ) → i < k → IsSoAt i (IsFit c.args.name.now c.args.more) (map read_entry c.args.relvars.now.list.entries)) one (fit_more name more es at count c.loop-at.invariant.fit c.in_ok-count.ensures);
     }
 
