@@ -7,13 +7,12 @@ use Rattle.value_core.specs.declared.refuse.Refuse.{Refuse}
 use Rattle.value_core.specs.Values.{Name, Heading, Relation}
 use Rattle.tree_core.specs.Relvars.{Entries, State}
 use Rattle.meaning_core.specs.Declarations.{counted}
-use Rattle.meaning_core.specs.Logs.{has_log}
 use Rattle.utd_syntax.specs.Plain.{Word, LiteralP, StatementP}
 use Rattle.assign_core.specs.Assignments.{assigned_in}
 use Rattle.assign_core.specs.Costs.{cost_of_assignments}
-use Rattle.assign_core.specs.Logs.{counted_if, is_brought}
-use Rattle.assign_core.specs.NewRows.{Arriving, brought_cost, brought_in, IsAloneIf, IsBaseWith, IsBrought, IsFoundIf, IsGivenTo, IsListFor, IsPaidFor, IsToldOf, StaysUnless, TakesNoneIf}
-use Rattle.assign_core.proofs.BroughtLemmas.{brought_assigned, brought_costs}
+use Rattle.assign_core.specs.Logs.{counted_if, is_brought, unless_full}
+use Rattle.assign_core.specs.NewRows.{Arriving, brought_cost, brought_in, values_brought, HasRoomFor, HasRoomIf, IsBaseWith, IsBrought, IsFoundIf, IsGivenTo, IsListFor, IsPaidFor, IsToldOf, StaysUnless, TakesNoneIf}
+use Rattle.assign_core.proofs.BroughtLemmas.{brought_beside, brought_costs}
 use Rattle.constant_laws.proofs.ListedPositions.{listed-is_list}
 use Rattle.constant_laws.specs.Insertions.{Bringing, Setting, Adding, AddingUnder, IsStatementOf}
 use Rattle.constant_effects.proofs.EffectLemmas.{IsPlainDone, plain-done}
@@ -55,7 +54,10 @@ module _ (start : Place) (bytes : List ℕ) (bringing : Bringing) (relvar : Name
   leaves : keeping_of from.tree ≡ Leaves
   leaves = leaves_of bringing relation.heading from.tree from.plain.w from.plain.l from.plain.is
 
-  module _ (found : IsBaseWith state relvar relation.heading) (alone : has_log state.relvars ≡ false) where
+  given_to : (found : IsBaseWith state relvar relation.heading) → IsGivenTo state relvar relation found.old brings.given
+  given_to found = record { constraints = found.constraints; there = found.there; headed = found.headed; are = brings.rows }
+
+  module _ (found : IsBaseWith state relvar relation.heading) (room : HasRoomFor way state relvar relation) where
     abbrev done : IsPlainDone state bringing relvar found.old brings.given from.tree
     done = plain-done state bringing relvar relation.heading brings.given from.tree found.old found.constraints from.plain brings.named found.there (sym found.headed) found.relation
 
@@ -65,10 +67,17 @@ module _ (start : Place) (bytes : List ℕ) (bringing : Bringing) (relvar : Name
     abbrev cost_meant : ℕ
     cost_meant = brought_cost state way done.at done.there relvar found.old brings.given
 
+    -- and so it is beside logs
+    beside_so : unless_full (values_brought state.relvars way done.at done.there done.assignment.target found.old brings.given) (brought_in state way done.at done.there done.assignment.target found.old brings.given)
+        ≡ brought_in state way done.at done.there done.assignment.target found.old brings.given
+    beside_so =
+        subst (λ (name : Name). unless_full (values_brought state.relvars way done.at done.there name found.old brings.given) (brought_in state way done.at done.there name found.old brings.given)
+        ≡ brought_in state way done.at done.there name found.old brings.given) (sym done.target) (room found.old done.at done.there brings.given (given_to found))
+
     assigned_so : assigned_in state (assignments_of state.relvars done.items) ≡ meant
     assigned_so =
         ap (assigned_in state) done.meant
-        ∙ (brought_assigned state done.assignment way done.at done.there found.old brings.given done.source alone
+        ∙ (brought_beside state done.assignment way done.at done.there found.old brings.given done.source beside_so
         ∙ ap (λ (name : Name). brought_in state way done.at done.there name found.old brings.given) done.target)
 
     answered_so : of_tree state from.tree ≡ unless_refused state meant
@@ -106,27 +115,24 @@ module _ (start : Place) (bytes : List ℕ) (bringing : Bringing) (relvar : Name
 
   -- ---- what the database tells of the rows that it is given
 
-  given_to : (found : IsBaseWith state relvar relation.heading) → IsGivenTo state relvar relation found.old brings.given
-  given_to found = record { constraints = found.constraints; there = found.there; headed = found.headed; are = brings.rows }
+  told_at : (result : Result Bool Refuse) (mid : State) (found : IsBaseWith state relvar relation.heading) (room : HasRoomFor way state relvar relation) → IsToldOf way result state mid relvar relation
+      → IsBrought result state mid (meant found room)
+  told_at result mid found room told = told found.old (done found room).at (done found room).there brings.given (given_to found)
 
-  told_at : (result : Result Bool Refuse) (mid : State) (found : IsBaseWith state relvar relation.heading) (alone : has_log state.relvars ≡ false) → IsToldOf way result state mid relvar relation
-      → IsBrought result state mid (meant found alone)
-  told_at result mid found alone told = told found.old (done found alone).at (done found alone).there brings.given (given_to found)
-
-  paid_at : (before now : ℕ) (found : IsBaseWith state relvar relation.heading) (alone : has_log state.relvars ≡ false) → IsPaidFor way state relvar relation before now → now ≤ before + cost_meant found alone
-  paid_at before now found alone paid = paid found.old (done found alone).at (done found alone).there brings.given (given_to found)
+  paid_at : (before now : ℕ) (found : IsBaseWith state relvar relation.heading) (room : HasRoomFor way state relvar relation) → IsPaidFor way state relvar relation before now → now ≤ before + cost_meant found room
+  paid_at before now found room paid = paid found.old (done found room).at (done found room).there brings.given (given_to found)
 
   pub tried_so : (done_so : Result Bool Refuse) (result : Option (Result (Vec ℕ Global) Refuse)) (mid new : State) (before now : ℕ) → IsToldBy done_so result → IsFoundIf done_so state relvar relation.heading
-      → IsAloneIf done_so state → IsToldOf way done_so state mid relvar relation → new ≡ counted_if (is_brought done_so) mid → StaysUnless done_so state new → TakesNoneIf done_so before now
+      → HasRoomIf way done_so state relvar relation → IsToldOf way done_so state mid relvar relation → new ≡ counted_if (is_brought done_so) mid → StaysUnless done_so state new → TakesNoneIf done_so before now
       → IsPaidFor way state relvar relation before now → IsTried start bytes result state new before now
-  tried_so (Ok true) (Some (Ok text)) mid new before now empty found alone told then stays none paid =
-      added found alone mid new text before now (told_at (Ok true) mid found alone told) then empty (paid_at before now found alone paid)
-  tried_so (Ok true) (Some (Err refuse)) mid new before now h found alone told then stays none paid = absurd h
-  tried_so (Ok true) None mid new before now h found alone told then stays none paid = absurd h
-  tried_so (Ok false) (Some written) mid new before now h found alone told then stays none paid = absurd h
-  tried_so (Ok false) None mid new before now h found alone told then stays none paid = (stays, none)
-  tried_so (Err refuse) (Some (Ok text)) mid new before now h found alone told then stays none paid = absurd h
-  tried_so (Err refuse) (Some (Err other)) mid new before now same found alone told then stays none paid =
+  tried_so (Ok true) (Some (Ok text)) mid new before now empty found room told then stays none paid =
+      added found room mid new text before now (told_at (Ok true) mid found room told) then empty (paid_at before now found room paid)
+  tried_so (Ok true) (Some (Err refuse)) mid new before now h found room told then stays none paid = absurd h
+  tried_so (Ok true) None mid new before now h found room told then stays none paid = absurd h
+  tried_so (Ok false) (Some written) mid new before now h found room told then stays none paid = absurd h
+  tried_so (Ok false) None mid new before now h found room told then stays none paid = (stays, none)
+  tried_so (Err refuse) (Some (Ok text)) mid new before now h found room told then stays none paid = absurd h
+  tried_so (Err refuse) (Some (Err other)) mid new before now same found room told then stays none paid =
       subst (λ (r : Refuse). IsDoneBy start bytes (Err r) state new before now) (sym same)
-      (refused found alone refuse mid new before now (told_at (Err refuse) mid found alone told) then (paid_at before now found alone paid))
-  tried_so (Err refuse) None mid new before now h found alone told then stays none paid = absurd h
+      (refused found room refuse mid new before now (told_at (Err refuse) mid found room told) then (paid_at before now found room paid))
+  tried_so (Err refuse) None mid new before now h found room told then stays none paid = absurd h

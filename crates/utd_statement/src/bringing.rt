@@ -4,7 +4,7 @@ ghost use Rattle.point_core.specs.declared.fault.Place.{Place};
 ghost use Rattle.point_core.specs.Whole.{greatest_whole};
 ghost use Rattle.tree_core.specs.Relvars.{read_relvars, State};
 ghost use Rattle.assign_core.specs.Logs.{counted_if, is_brought};
-ghost use Rattle.assign_core.specs.NewRows.{IsAloneIf, IsFoundIf, IsListFor, IsPaidFor, IsToldOf, StaysUnless, TakesNoneIf};
+ghost use Rattle.assign_core.specs.NewRows.{HasRoomIf, IsFoundIf, IsListFor, IsPaidFor, IsToldOf, StaysUnless, TakesNoneIf};
 ghost use Rattle.constant_effects.specs.Ways.{arriving_of};
 ghost use Rattle.plain_rows.specs.Brought.{bringing_of};
 ghost use Rattle.utd_statement.specs.Bringing.{IsToldBy, IsTried};
@@ -38,7 +38,7 @@ fn put<L: Ledger>(
     requires list { IsListFor rows.heading (arriving_of (bringing_of way.now)) }
     requires room { ((read_relvars database.old).accepted +ℤ pos 1) <ℤ greatest_whole }
     ensures brought { (mid : State) × IsToldOf (arriving_of (bringing_of way.now)) result (read_relvars database.old) mid relvar.now rows × (read_relvars database.new ≡ counted_if (is_brought result) mid) }
-    ensures alone { IsAloneIf result (read_relvars database.old) }
+    ensures beside { HasRoomIf (arriving_of (bringing_of way.now)) result (read_relvars database.old) relvar.now rows }
     ensures found { IsFoundIf result (read_relvars database.old) relvar.now rows.heading }
     ensures stays { StaysUnless result (read_relvars database.old) (read_relvars database.new) }
     ensures none { TakesNoneIf result steps.old steps.new }
@@ -54,8 +54,9 @@ fn put<L: Ledger>(
 }
 
 /// What a statement writes that brings rows, or why it is refused: performed straight from its bytes, with no tree. It is left, and changes
-/// nothing, where its bytes are none of these, where its relvar is none with the rows' heading, where that might have too many rows, where
-/// they come under a list of several attributes, and where there is a log.
+/// nothing, where its bytes are none of these, where its relvar is none with the rows' heading, where that might have too many rows, and where
+/// they come under a list of several attributes. Where there is a log, it is left too unless it simply adds rows, where the relvar has several
+/// logs, and where base relvars or logs might have too many rows.
 pub(crate) fn bring<L: Ledger>(
     alloc: Global,
     text: &[u8],

@@ -19,4 +19,4 @@ returns g c = λ start.
     let put = c.put-done in
     let brings = subst (λ (types : List OrdinalNames). IsBrought types c.args.text.now (bringing_of plain.way) plain.relvar plain.rows) (ap (λ (t : State). t.ordinals) c.relvars.ensures.state) c.in-Some.ensures in
     tried_so start c.args.text.now (bringing_of plain.way) plain.relvar plain.rows s brings put.result c.told.result put.ensures.brought.0 (read_relvars put.new.database) c.args.steps.now put.new.steps
-    c.told.ensures put.ensures.found put.ensures.alone put.ensures.brought.1 put.ensures.brought.2 put.ensures.stays put.ensures.none put.ensures.cost
+    c.told.ensures put.ensures.found put.ensures.beside put.ensures.brought.1 put.ensures.brought.2 put.ensures.stays put.ensures.none put.ensures.cost
