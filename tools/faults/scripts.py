@@ -26,7 +26,7 @@ def of_file(path):
 
 
 def by_statements(path):
-    """The script of a file of crates/utd_rows/data/faults: `===`, a statement, `---`, what it writes, and so on."""
+    """The script of a file as those of crates/utd_rows/data/faults: `===`, a statement, `---`, what it writes, and so on."""
     parts = [part.split(b'---\n') for part in bytes_of(path).split(b'===\n')[1:]]
     return Script(os.path.relpath(path), text=b''.join(text for text, _ in parts), output=b''.join(output for _, output in parts))
 
@@ -37,7 +37,7 @@ def dumped(script):
 
 
 def all_scripts(root):
-    found = [by_statements(path) for path in sorted(glob.glob(f'{root}/crates/utd_rows/data/faults/*.txt'))]
+    found = [by_statements(path) for path in [*sorted(glob.glob(f'{root}/crates/utd_rows/data/faults/*.txt')), f'{root}/tools/faults/logs.txt']]
     found += [dumped(script) for script in found]
     found += [of_file(path) for path in sorted(glob.glob(f'{root}/examples/*.td'))]
     return [*found, Script('--generate 100', words=('--generate', '100'))]

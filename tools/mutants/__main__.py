@@ -5,10 +5,11 @@
 PROGRAM is the built program, crates/utd/out/utd. COUNT scripts (2,000 if not said) of one to four insertions or settings are drawn, most of them with a tuple
 that is broken (breaks.py) or with characters that are dropped, changed, added or exchanged. Each is played as it is, so that rows come straight from bytes
 where they can, and once more with a change of nothing on the line before each statement: two changes in one are read by the general way alone. Each is
-played for its answers and refusals, and with --dump for the rows that then stand, whatever a mutation left open at the end.
+played for its answers and refusals, and with --dump for the rows that then stand, whatever a mutation left open at the end. In a third of the scripts each
+relvar has a log, which is printed at the end; these have no dump.
 
-Prints the first scripts that differ, then how many were played, how many statements were refused, and how many dumps have rows. Status 1 where one
-differs, 2 for wrong words.
+Prints the first scripts that differ, then how many were played, how many statements were refused, how many dumps have rows, and how many scripts have logs.
+Status 1 where one differs, 2 for wrong words.
 """
 import concurrent.futures
 import os
@@ -57,15 +58,16 @@ def main(given):
     program, count, seed = words
     drawn = Drawn(seed)
     pairs = [drawn.script() for _ in range(count)]
-    wrong = refused = kept = 0
+    wrong = refused = kept = logged = 0
     for pair, (one, other) in zip(pairs, played(os.path.abspath(program), pairs)):
         (_, told, _), (_, dump, _) = one
         refused += told.count(b' refused: ')
         kept += b'INSERT' in dump
+        logged += b'\nLOG ' in pair[0]
         wrong += one != other
         if one != other and wrong <= SHOWN:
             print(pair[0].decode(errors='replace'), one, other, sep='\n')
-    print(f'{count} scripts played on both ways, {refused} statements refused, rows stand after {kept}; {wrong} scripts differ')
+    print(f'{count} scripts played on both ways, {refused} statements refused, rows stand after {kept}, {logged} have logs; {wrong} scripts differ')
     return 1 if wrong else 0
 
 

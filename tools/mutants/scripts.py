@@ -11,6 +11,8 @@ KINDS = {
 CONSTRAINTS = {'R': ' KEY {A}', 'Q': ' USING (X): KEY {N, X}', 'O': ''}
 # the lists of attributes under which rows come in
 LISTS = {'R': ['D', 'G', 'D, G'], 'Q': ['X'], 'O': ['Y']}
+# a log of each relvar, by its attribute, which comes in the middle, first and last in the order of names
+LOGS = {'R': 'CC', 'Q': 'A', 'O': 'ZZ'}
 # a line before a statement: blank, or a change of nothing, beside which no other is read straight from its bytes
 LINES = [b'\n', b'INSERT Z RELATION {N INTEGER} {},\n']
 
@@ -32,6 +34,12 @@ def head():
     """The declarations before all statements: three relvars, one that is virtual, and one for changes of nothing."""
     lines = ['TYPE SIZE ORDINAL {S, M, L};', *(f'VAR {name} RELATION {heading_of(name)}{CONSTRAINTS[name]};' for name in KINDS)]
     return '\n'.join([*lines, 'VAR V VIRTUAL (Q WHERE N > 1);', 'VAR Z RELATION {N INTEGER} KEY {N};', '']).encode()
+
+
+def logs():
+    """The declarations of the logs, and what prints them; a dump has none."""
+    declared = [f'LOG L{name} OF {name} ({attribute});\n' for name, attribute in LOGS.items()]
+    return ''.join(declared).encode(), ''.join(f'PRINT L{name};\n' for name in LOGS).encode()
 
 
 class Drawn:
@@ -153,6 +161,7 @@ class Drawn:
         return [line + text + b'\n;\n' for line in LINES]
 
     def script(self):
-        """A script, and its twin."""
+        """A script, and its twin. In a third each relvar has a log, and these are printed at the end."""
         statements = [self.statement() for _ in range(self.random.randint(1, 4))]
-        return [head() + b''.join(one[at] for one in statements) for at in (0, 1)]
+        before, behind = logs() if self.random.random() < 1 / 3 else (b'', b'')
+        return [head() + before + b''.join(one[at] for one in statements) + behind for at in (0, 1)]
