@@ -12,7 +12,7 @@ from kinds import CHAR, NO_ATTRIBUTE, Points, by_bytes, columns_of, identifiers,
 from points import by_points
 from relations import Relation, distinct, equal, heading_of, interval_list, known, listed, nested, of_table, relation_of, same_heading, values_set
 from scalars import Scope, condition_of, over, points_of, scalar_of, swept
-from syntax import Refusal, statements_of, tree_of
+from syntax import NoForm, Refusal, statements_of, tree_of
 
 # a translated statement: its number, its text, its SQL, the refusal where there is none, and what it prints: the kinds of a heading, 'truth' or nothing
 Translated = collections.namedtuple('Translated', 'number text sql refusal prints')
@@ -52,13 +52,15 @@ class View:
 
 
 class Names:
-    """What names stand for: types, relvars, views and rules, and the tables in whose place a new value stands during an assignment."""
+    """What names stand for: types, relvars, views, rules and logs, each log with its relvar, and the tables in whose place a new value stands during an
+    assignment.
+    """
 
     def __init__(self):
-        self.types, self.relvars, self.views, self.rules, self.values = {}, {}, {}, {}, {}
+        self.types, self.relvars, self.views, self.rules, self.logs, self.values = {}, {}, {}, {}, {}, {}
 
     def free(self, name, *others):
-        if name in self.types or name in self.relvars or name in self.views or name in self.rules or name in others:
+        if any(name in taken for taken in (self.types, self.relvars, self.views, self.rules, self.logs, others)):
             raise Refusal('E11', f'the name {name} is taken')
         return quoted(name)
 
@@ -68,15 +70,17 @@ class Names:
             if name in self.values:
                 return of_table(relvar.heading, self.values[name])
             return of_table(relvar.heading, quoted(name), relvar.packed, relvar.keys)
+        if name in self.logs:
+            raise NoForm('E01', f'{name} is a log, which has no form in SQL')
         if name not in self.views:
             raise Refusal('E10', f'there is no relvar {name}')
         view = self.views[name]
         return relation_of(view.tree, self) if self.values else of_table(view.heading, quoted(name), view.packed, view.keys)
 
     def base_heading(self, name):
-        """The heading of a relvar that is no view."""
-        if name in self.views:
-            raise Refusal('E20', f'{name} is a view')
+        """The heading of a relvar that is no view and no log."""
+        if name in self.views or name in self.logs:
+            raise Refusal('E20', f'{name} is a {"view" if name in self.views else "log"}')
         if name not in self.relvars:
             raise Refusal('E10', f'there is no relvar {name}')
         return self.relvars[name].heading
@@ -84,7 +88,7 @@ class Names:
     def with_value(self, name, table):
         """The names where a new value stands for a relvar."""
         found = Names()
-        found.types, found.relvars, found.views, found.rules = self.types, self.relvars, self.views, self.rules
+        found.types, found.relvars, found.views, found.rules, found.logs = self.types, self.relvars, self.views, self.rules, self.logs
         found.values = {name: table} if table else {}
         return found
 
@@ -114,8 +118,16 @@ def table_of(names, name, heading, constraints):
     return '\n'.join([f'CREATE TABLE {quoted(name)} (\n  {lines}\n);', *behind, *more])
 
 
-def declare_log(names, *parts):
-    raise Refusal('E01', 'a log has no form in SQL')
+def declare_log(names, name, relvar, attribute):
+    """Refuses a log, and remembers it: the program has it."""
+    names.free(name)
+    heading = names.base_heading(relvar)
+    if attribute in heading:
+        raise Refusal('E15', f'{relvar} has {attribute}')
+    if len(heading) > 15:
+        raise Refusal('E17', 'a relvar with a log has at most 15 attributes')
+    names.logs[name] = relvar
+    raise NoForm('E01', 'a log has no form in SQL', name)
 
 
 def declare_relvar(names, name, form):
@@ -196,12 +208,15 @@ def drop_one(names, name):
 
 
 def drop(names, name):
+    if name in names.logs:
+        del names.logs[name]
+        return ''
     if name not in names.relvars and name not in names.views:
         raise Refusal('E10', f'there is no relvar {name}')
     if any(view.history and name in (view.history.since, view.history.during) for view in names.views.values()):
         raise Refusal('E21', f'{name} is one of a history')
     group = group_of(names, name)
-    users = users_of(names, group)
+    users = [log for log, relvar in names.logs.items() if relvar in group] + users_of(names, group)
     if users:
         raise Refusal('E21', f'{users[0]} uses {name}')
     return '\n'.join(line for part in group for line in drop_one(names, part))
@@ -233,11 +248,14 @@ def declare_rule(names, name, test):
     asked, function = asked_in(names, name, test), rule_function(name)
     tables = by_bytes(tables_under(names, test))
     names.rules[name] = test
+    # in one transaction, so that a rule that does not hold leaves nothing
     return '\n'.join([
+        'BEGIN;',
         f'DO $$\n{asked}\nEND\n$$;',
         f'CREATE FUNCTION {function}() RETURNS trigger LANGUAGE plpgsql AS $$\n{asked}\n  RETURN NULL;\nEND\n$$;',
         *(f'CREATE CONSTRAINT TRIGGER {function} AFTER INSERT OR UPDATE OR DELETE ON {quoted(table)}'
-          f' DEFERRABLE INITIALLY DEFERRED FOR EACH ROW EXECUTE FUNCTION {function}();' for table in tables)])
+          f' DEFERRABLE INITIALLY DEFERRED FOR EACH ROW EXECUTE FUNCTION {function}();' for table in tables),
+        'COMMIT;'])
 
 
 def drop_rule(names, name):
@@ -476,7 +494,7 @@ STATEMENTS = {
 
 def translated(script, names=None, broken=()):
     """The statements of a script, each in SQL or with what refuses it, over names that are declared already. Whether a rule holds where it is
-    declared only its rows tell: broken has the numbers of statements that are known to be refused for it.
+    declared, and whether there is room for a log, only rows tell: broken has the numbers of statements that are known to be refused for it.
     """
     names = names or Names()
     for number, (text, tokens) in enumerate(statements_of(script), 1):
@@ -490,4 +508,6 @@ def translated(script, names=None, broken=()):
             sql, prints = found if isinstance(found, tuple) else (found, None)
             yield Translated(number, text, sql, None, prints)
         except Refusal as refusal:
+            if number in broken and isinstance(refusal, NoForm):
+                names.logs.pop(refusal.declared, None)
             yield Translated(number, text, '', refusal, None)

@@ -39,6 +39,14 @@ class Refusal(Exception):
         self.code = code
 
 
+class NoForm(Refusal):
+    """A refusal of what the program takes, and SQL has no form for; with the name that it declares, or none."""
+
+    def __init__(self, code, words, declared=None):
+        super().__init__(code, words)
+        self.declared = declared
+
+
 def word(place, spelling):
     found = Word(spelling)
     found.place = place
@@ -251,7 +259,7 @@ class Reader:
             inner, symbols, make = row[3], row[4], row[5]
         token = self.take()
         values = numbered([self.read(symbol) for symbol in [*(inner or []), *symbols]])
-        return compiled(make), {**values, 'p': token.place, 'b': token.spelling, 'word': word, 'tt': None}
+        return compiled(make), {**values, 'p': token.place, 'b': token.spelling, 'word': word, 'log_word': 'LOG', 'tt': None}
 
 
 def numbered(values):
