@@ -1,4 +1,5 @@
 -- Rows that a base relvar gains, and that are taken out of it again.
+--     apart_stays      no entry is one of the name
 --     given_turned, taken_back      the base relvar gets another value, and its old one again
 --     named_given, named_other      what names stand for where it has
 --     rows_given      how many rows there are then
@@ -39,7 +40,7 @@ use Rattle.assign_core.proofs.TurnoverLemmas.{united_new}
 
 -- ---- a base relvar with another value
 
-apart_stays : (es : Entries) (own name : Name) (w : Relation) → bytes_eq own name ≡ true → AllByRecursion (λ n. bytes_eq own n ≡ false) (names_in es) → given (Some name) (Some w) es ≡ es
+pub apart_stays : (es : Entries) (own name : Name) (w : Relation) → bytes_eq own name ≡ true → AllByRecursion (λ n. bytes_eq own n ≡ false) (names_in es) → given (Some name) (Some w) es ≡ es
 apart_stays [] own name w e h = refl
 apart_stays (r ∷ es) own name w e h =
     let other : bytes_eq r.0 name ≡ false = turned name r.0 (ap (λ (n : Name). bytes_eq n r.0) (sym (same_name own name e)) ∙ h.0) in

@@ -1,5 +1,6 @@
 -- A base relvar that has gained rows beside its log.
 --     has_room_for      what is meant of the rows is so beside the logs
+--     entries_are      what is accepted is what was given
 --     found_base      the base relvar is found
 --     gains, once, within      the state with the rows, in which its log is to gain them
 --     is_back      the state after they are taken out again
@@ -48,7 +49,7 @@ use Rattle.assign_core.proofs.TurnoverLemmas.{few_together}
 sum_fits : (bases logs most : ℕ) (few : Bool) → bases + logs ≤ most → few ≡ true → (nat_le (bases + logs) most && few) ≡ true
 sum_fits bases logs most few l e = let fits : nat_le (bases + logs) most ≡ true = grind (arith, nat_tests) in λ i. fits i && e i
 
-entries_are : (rules : Rules) (all new : Entries) → unless_rule_broken rules (kept_or_refused all) ≡ Ok new → all ≡ new
+pub entries_are : (rules : Rules) (all new : Entries) → unless_rule_broken rules (kept_or_refused all) ≡ Ok new → all ≡ new
 entries_are rules all new e = rows (nat_le (rows_of_all all) most_rows_in_all) e
   where
     ruled : (o : Option Refuse) → unless_broken all o ≡ Ok new → all ≡ new

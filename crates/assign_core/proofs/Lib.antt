@@ -1,5 +1,6 @@
 pub mod AdditionLemmas
 pub mod AssignedLemmas
+pub mod BesideLemmas
 pub mod BroughtLemmas
 pub mod ChangeLemmas
 pub mod CheckLemmas

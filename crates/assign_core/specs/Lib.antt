@@ -1,5 +1,6 @@
 pub mod Arrivals
 pub mod Assignments
+pub mod Beside
 pub mod Breaches
 pub mod Changes
 pub mod Checks

@@ -14,9 +14,11 @@ ghost use Rattle.assign_core.specs.Costs.{assignments_cost, cost_of_assignments}
 ghost use Rattle.assign_core.specs.Databases.{IsKept};
 ghost use Rattle.assign_core.specs.Exchanges.{with_ready, IsReady};
 ghost use Rattle.assign_core.specs.Hashed.{AreHashed};
+ghost use Rattle.assign_core.specs.Beside.{IsBeside};
 ghost use Rattle.assign_core.specs.Logs.{counted_if, is_brought, unless_full, IsRoomFor};
 ghost use Rattle.assign_core.specs.NewRows.{HasRoomIf, IsFoundIf, IsListFor, IsPaidFor, IsToldOf, StaysUnless, TakesNoneIf};
 
+use crate::beside::leaves_logs;
 use crate::exchange::Ready;
 use crate::filling::fill;
 use crate::gaining::bring_logged;
@@ -52,10 +54,13 @@ pub(crate) fn assign<L: Ledger>(
     ensures hashed { AreHashed hashed.new (read_relvars relvars.new).relvars }
     ensures cost { steps.new ≤ steps.old + cost_of_assignments (read_relvars relvars.old) (map read_assignment list.now) }
 {
-    if has_log(relvars) {
-        return assign_logged(alloc, relvars, hashed, list, steps);
+    if !has_log(relvars) {
+        return assign_alone(alloc, relvars, hashed, list, steps);
     }
-    assign_alone(alloc, relvars, hashed, list, steps)
+    if leaves_logs(relvars, list) {
+        return assign_beside(alloc, relvars, hashed, list, steps);
+    }
+    assign_logged(alloc, relvars, hashed, list, steps)
 }
 
 // Where there is no log.
@@ -81,6 +86,33 @@ fn assign_alone<L: Ledger>(
     let ready = prepare(alloc, list, relvars, hashed, steps)?;
     settle(alloc, relvars, hashed, ready, steps)?;
     count_alone(relvars);
+    Ok(())
+}
+
+// Where there are logs, and each of them is left.
+fn assign_beside<L: Ledger>(
+    alloc: Global,
+    relvars: &mut Relvars,
+    hashed: &mut Hashed,
+    list: &[Assignment],
+    steps: &mut Steps<L>,
+) -> Result<(), Refuse>
+    requires kept { IsKept (read_relvars relvars.old) }
+    requires step { AreInStep (read_relvars relvars.old).accepted (read_relvars relvars.old).relvars }
+    requires beside { IsBeside (read_relvars relvars.old) (map read_assignment list.now) }
+    requires room { ((read_relvars relvars.old).accepted +ℤ pos 1) <ℤ greatest_whole }
+    requires hashed { AreHashed hashed.old (read_relvars relvars.old).relvars }
+    requires typed { All (λ a. IsTypedAssignment (read_relvars relvars.old) (read_assignment a)) list.now }
+    ensures assigned { (mid : State) × IsAssigned result (read_relvars relvars.old) mid (map read_assignment list.now) × (read_relvars relvars.new ≡ counted_if (is_ok result) mid) }
+    ensures kept { IsKept (read_relvars relvars.new) }
+    ensures step { AreInStep (read_relvars relvars.new).accepted (read_relvars relvars.new).relvars }
+    ensures hashed { AreHashed hashed.new (read_relvars relvars.new).relvars }
+    ensures cost { steps.new ≤ steps.old + cost_of_assignments (read_relvars relvars.old) (map read_assignment list.now) }
+{
+    fill(alloc, list, relvars, hashed)?;
+    let ready = prepare(alloc, list, relvars, hashed, steps)?;
+    settle(alloc, relvars, hashed, ready, steps)?;
+    count(relvars, &mut []);
     Ok(())
 }
 

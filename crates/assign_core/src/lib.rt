@@ -4,6 +4,7 @@
 mod addition;
 mod appending;
 mod assigning;
+mod beside;
 mod by_condition;
 mod changes;
 mod checking;
