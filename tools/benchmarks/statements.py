@@ -1,20 +1,22 @@
 #!/usr/bin/env python3
 """statements: a script that puts rows into a relvar with a key, many or few in a statement.
 
-    statements.py ROWS EACH [--count MORE] [--change FORM] [--front] [--key-using] [--insert-using] [--turn] > script
+    statements.py ROWS EACH [--count MORE] [--change FORM] [--front] [--key-using] [--insert-using] [--turn] [--log] > script
 
 ROWS rows, EACH of them in an INSERT, in no order; the last statement counts them. With --count, MORE statements with one row each
 follow. With --front the key's attribute is the first by its name, so that rows stand in the order of the key. With --key-using the key is one
 under USING of the interval, so that rows are packed and keys are asked at each point; with --insert-using the INSERTs are under USING.
 With --change the statements that follow are changes of one key each in place of insertions: delete, update, portion-delete, portion-update, or
-meet, an INSERT under USING of a row that goes on where one that is there ends. With --turn there is a second relvar with the same rows, and
-each statement that follows is asked of both in turn.
+meet, an INSERT under USING of a row that goes on where one that is there ends; or insert, a new row beside those that are there; or they change
+nothing: again, an INSERT of a row that is there, none, a DELETE that finds no row, and print, of a literal. With --turn there is a second relvar
+with the same rows, and each statement that follows is asked of both in turn. With --log the relvar has a log from its rows on.
 """
 import argparse
 import random
 import sys
 
 HEAD = 'VAR R RELATION {%s INTEGER, T CHAR, D INTERVAL(DATE)} %s;\n'
+LOG = 'LOG L OF R (N);\n'
 TAIL = 'PRINT SUMMARIZE R BY {}: {N := COUNT()};\n'
 
 
@@ -40,6 +42,10 @@ CHANGES = {
     'update': "UPDATE R WHERE {key} = {number}: {{T := 'changed'}};\n",
     'portion-delete': "DELETE R PORTION {{D [DATE '2013-03-01':DATE '2013-03-31']}} WHERE {key} = {number};\n",
     'portion-update': "UPDATE R PORTION {{D [DATE '2013-03-01':DATE '2013-03-31']}} WHERE {key} = {number}: {{T := 'changed'}};\n",
+    'insert': 'INSERT R RELATION {{{new}}};\n',
+    'again': 'INSERT R RELATION {{{old}}};\n',
+    'none': 'DELETE R WHERE {key} = {absent};\n',
+    'print': 'PRINT RELATION {{TUPLE {{X {number}}}}};\n',
     'meet': "USING (D): INSERT R RELATION {{TUPLE {{{key} {number}, T 'row {name}', D [DATE '2014-01-01':DATE '2014-01-31']}}}};\n",
 }
 
@@ -50,7 +56,7 @@ def main():
     words.add_argument('each', type=int)
     words.add_argument('--count', type=int, default=0)
     words.add_argument('--change', choices=CHANGES)
-    for name in '--front', '--key-using', '--insert-using', '--turn':
+    for name in '--front', '--key-using', '--insert-using', '--turn', '--log':
         words.add_argument(name, action='store_true')
     asked = words.parse_args()
     key = 'A' if asked.front else 'K'
@@ -62,11 +68,15 @@ def main():
     write(head)
     for statement in inserts(numbers[:asked.rows], asked.each, key, insert):
         write(statement)
+    if asked.log:
+        write(LOG)
     if asked.turn:
         write(of_second(head) + 'S := R;\n')
     more = list(inserts(numbers[asked.rows:], 1, key, insert))
     for number in numbers[:asked.count if asked.change else 0]:
-        more.append(CHANGES[asked.change].format(key=key, number=number, name=number % 97))
+        absent = asked.rows + number
+        rows = {'old': tuple_of(number, key), 'new': tuple_of(absent, key)}
+        more.append(CHANGES[asked.change].format(key=key, number=number, absent=absent, name=number % 97, **rows))
     for statement in more:
         write(statement + (of_second(statement) if asked.turn else ''))
     write(TAIL)
