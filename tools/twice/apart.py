@@ -16,7 +16,7 @@ APART = {
     frozenset({('crates/relation_core/src/numbers.rt', 'bytes_hash'), ('crates/u_constraints/src/marks.rt', 'bytes_hash')}): LOWER,
     frozenset({('crates/since_during/proofs/PlaceLemmas.antt', 'each-from'), ('crates/u_set/proofs/TimeLemmas.antt', 'each_from')}):
         'neither stands on the other; its place is base_core, on which all others stand',
-    frozenset({('crates/value_core/src/relation.rt', 'are_behind'), ('crates/assign_core/src/removal.rt', 'are_behind')}): LOWER,
+    frozenset({('crates/value_core/src/relation.rt', 'are_behind'), ('crates/row_removal/src/removal.rt', 'are_behind')}): LOWER,
     frozenset({('crates/cell_packing/proofs/Exists.antt', 'gap'), ('crates/u_summarize/proofs/PointCellLemmas.antt', 'number_from')}): LOWER,
     frozenset({('crates/scalar_core/proofs/SweepLemmas.antt', 'span_again'), ('crates/eval_using/proofs/MovedLemmas.antt', 'span_again')}): LOWER,
     frozenset({('crates/u_set/proofs/TimeLemmas.antt', 'values_within'), ('crates/u_constraints/proofs/GrownKeyLemmas.antt', 'parts_agree')}):
