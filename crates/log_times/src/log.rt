@@ -3,10 +3,12 @@ ghost use Rattle.std.specs.Prelude.{◌≡◌, ◌≤◌, ◌<ℤ◌, ◌≤ℤ�
 ghost use Rattle.value_core.specs.Values.{most_rows, IsRelation};
 ghost use Rattle.relation_core.specs.Operators.{united};
 ghost use Rattle.log_times.specs.Logs.{open_end, IsStored};
+ghost use Rattle.log_times.specs.Turns.{exchanged};
 ghost use Rattle.log_times.specs.Kept.{log_relation, IsLog};
 
 use crate::closing::closed;
 use point_core::Memory;
+use row_removal::remove;
 use std::alloc::Global;
 use std::marker::Model;
 use value_core::{Heading, Relation};
@@ -87,16 +89,23 @@ impl Log {
         self.last = number;
     }
 
-    /// Puts stored rows among those of the log, and brings it to the statement of the number `last`. A row that is there already stays. For want
-    /// of memory nothing changes.
-    pub fn insert(&mut self, more: Relation, last: i64) -> Result<(), Memory>
-        requires heading { more.heading ≡ self.old.stored.heading }
-        requires few { length (united self.old.stored.rows more.rows) ≤ most_rows }
-        requires stored { IsStored self.old.side last (united self.old.stored.rows more.rows) }
-        ensures gained { OnOk result (self.new ≡ record { side = self.old.side; last = last; stored = record { heading = self.old.stored.heading; rows = united self.old.stored.rows more.rows } }) }
+    /// Puts stored rows among those of the log, takes others out, and brings it to the statement of the number `last`. For want of memory
+    /// nothing changes.
+    pub fn exchange(
+        &mut self,
+        alloc: Global,
+        come: Relation,
+        gone: &Relation,
+        last: i64,
+    ) -> Result<(), Memory>
+        requires heading { come.heading ≡ self.old.stored.heading }
+        requires few { length (united self.old.stored.rows come.rows) ≤ most_rows }
+        requires stored { IsStored self.old.side last (exchanged self.old.stored.rows come.rows gone.now.rows) }
+        ensures exchanged { OnOk result (self.new ≡ record { side = self.old.side; last = last; stored = record { heading = self.old.stored.heading; rows = exchanged self.old.stored.rows come.rows gone.now.rows } }) }
         ensures err { OnErr result (self.new ≡ self.old) }
     {
-        self.stored.insert(more)?;
+        self.stored.insert(come)?;
+        remove(&mut self.stored, alloc, gone);
         self.last = last;
         Ok(())
     }
