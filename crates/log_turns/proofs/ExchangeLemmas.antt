@@ -23,25 +23,25 @@ use Rattle.log_times.proofs.TurnLemmas.{has_In, one_set}
 In_united : (xs ys : List Row) (x : Row) → In x (united xs ys) ↔ (In x xs ⊎ In x ys)
 In_united xs ys x = In-union_of row_cmp row_total row_separates x xs ys
 
-In_subtracted : (xs ys : List Row) (x : Row) → In x (subtracted xs ys) ↔ (In x xs × (In x ys → ⊥))
+pub In_subtracted : (xs ys : List Row) (x : Row) → In x (subtracted xs ys) ↔ (In x xs × (In x ys → ⊥))
 In_subtracted xs ys x = In-difference_of row_cmp row_total row_separates x xs ys
 
-In_exchanged : (rows come gone : List Row) (x : Row) → In x (exchanged rows come gone) ↔ ((In x rows ⊎ In x come) × (In x gone → ⊥))
+pub In_exchanged : (rows come gone : List Row) (x : Row) → In x (exchanged rows come gone) ↔ ((In x rows ⊎ In x come) × (In x gone → ⊥))
 In_exchanged rows come gone x =
     let d = In_subtracted (united rows come) gone x in
     let u = In_united rows come x in
     (λ h. let k = d.0 h in (u.0 k.0, k.1), λ h. d.1 (u.1 h.0, h.1))
 
-exchanged_ascends : (rows come gone : List Row) → Ascends row_cmp (exchanged rows come gone)
+pub exchanged_ascends : (rows come gone : List Row) → Ascends row_cmp (exchanged rows come gone)
 exchanged_ascends rows come gone = Ascends-difference_of row_cmp row_total row_separates (united rows come) gone (Ascends-union_of row_cmp row_total row_separates rows come)
 
-has_not : (xs : List Row) (x : Row) → (In x xs → ⊥) → has row_cmp xs x ≡ false
+pub has_not : (xs : List Row) (x : Row) → (In x xs → ⊥) → has row_cmp xs x ≡ false
 has_not xs x n = false_from_ne_true (has row_cmp xs x) (λ e. n ((has_In xs x).0 e))
 
-not_In : (xs : List Row) (x : Row) → has row_cmp xs x ≡ false → In x xs → ⊥
+pub not_In : (xs : List Row) (x : Row) → has row_cmp xs x ≡ false → In x xs → ⊥
 not_In xs x f i = both_ways (has row_cmp xs x) f ((has_In xs x).1 i)
 
-there_or_not : (xs : List Row) (x : Row) → In x xs ⊎ (In x xs → ⊥)
+pub there_or_not : (xs : List Row) (x : Row) → In x xs ⊎ (In x xs → ⊥)
 there_or_not xs x = by (has row_cmp xs x) refl
   where
     by : (b : Bool) → has row_cmp xs x ≡ b → In x xs ⊎ (In x xs → ⊥)

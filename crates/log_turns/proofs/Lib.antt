@@ -2,4 +2,5 @@ pub mod StandingLemmas
 pub mod ExchangeLemmas
 pub mod TurnedLemmas
 pub mod ValueLemmas
-pub mod ComingLemmas
+pub mod ChangingLemmas
+pub mod DifferingLemmas

@@ -2,11 +2,11 @@
 #![tactic(auto)]
 
 mod beginning;
+mod changing;
 mod exchange;
-mod gaining;
 mod standing;
 mod turning;
 
 pub use beginning::begun;
-pub use gaining::gain;
+pub use changing::change;
 pub use turning::turned;
