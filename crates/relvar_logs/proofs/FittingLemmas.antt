@@ -1,4 +1,4 @@
--- Entries among which a log is to gain rows, counted one by one.
+-- Entries among which a log is to be told of rows, counted one by one.
 --     few_test      a number that is small enough
 --     IsFit      what is so of each
 --     rows_more, logs_more      one more is counted
@@ -16,7 +16,7 @@ use Rattle.tree_core.specs.declared.relvar.Relvar.{Relvar}
 use Rattle.tree_core.specs.Relvars.{PlainRelvar, Entries, read_entry, read_relvar}
 use Rattle.relvar_logs.specs.Changes.{IsSoAt}
 use Rattle.relvar_logs.specs.Fitting.{IsFitting}
-use Rattle.relvar_logs.specs.Gains.{is_log_of, logs_of, HasEnded, HasRoomForGain}
+use Rattle.relvar_logs.specs.LoggedChanges.{is_log_of, logs_of, HasEnded, HasRoomForChange}
 use Rattle.relvar_logs.specs.Room.{are_each_few, log_count, rows_of_logs}
 use Rattle.relvar_logs.proofs.EntryLemmas.{so_put, so_weaker}
 use Rattle.relvar_logs.proofs.TurningLemmas.{all_there}
@@ -81,7 +81,7 @@ module _ (name : Name) (more : ℕ) where
   take_all (e ∷ es) (suc i) l = ap (λ (z : Entries). e ∷ z) (take_all es i (omega (arith, l)))
 
   pub all_fit_in : (es : Entries) (i most room own : ℕ) → length es ≤ i → ((k : ℕ) → k < i → IsSoAt k IsFit es) → rows_of_logs (take i es) + more + room ≤ most → length (logs_of name (take i es)) ≤ own → own ≤ 1
-      → HasRoomForGain name more most room es
+      → HasRoomForChange name more most room es
   all_fit_in es i most room own l fit rows logs one =
       let whole = take_all es i l in
       let size = ap rows_of_logs whole in

@@ -1,9 +1,9 @@
+pub mod ChangedLemmas
 pub mod CountLemmas
 pub mod EntryLemmas
 pub mod FittingLemmas
-pub mod GainRoomLemmas
-pub mod GrownLemmas
 pub mod NextLemmas
 pub mod OpeningLemmas
 pub mod PassedLemmas
+pub mod RoomLemmas
 pub mod TurningLemmas

@@ -1,6 +1,6 @@
 -- Logs on their way to a statement, some of which tell it already.
 --     passed_set      one more is brought to it
---     gained_passed, none_passed      the one log of a relvar is, or there is none
+--     changed_passed, none_passed      the one log of a relvar is, or there is none
 --     passed_logs, passed_step      all are
 use Rattle.std.proofs.Common.{◌≡◌, inl, inr, ℕ, zero, suc, ◌<◌, ◌≤◌, ℤ, pos, ◌-ℤ◌, Bool, true, false, cond, List, [], ◌∷◌, map, length, refl, sym, ap, subst, arith, Some, Result, Ok, Err}
 use Rattle.std.specs.Prelude.{slice_get, OnOk, OnErr}
@@ -12,8 +12,8 @@ use Rattle.tree_core.specs.declared.relvar.Relvar.{Relvar}
 use Rattle.tree_core.specs.Relvars.{PlainRelvar, base, view, log, Entries, read_entry, read_relvar}
 use Rattle.meaning_core.specs.Logs.{turned_relvar, turned_logs, IsInStep, AreInStep}
 use Rattle.relvar_logs.specs.Changes.{turned_at, IsSoAt}
-use Rattle.relvar_logs.specs.Gains.{is_log_of, logs_of, IsGainOf, AreGaining}
-use Rattle.relvar_logs.specs.Passed.{ArePassed, IsBrought, IsGainingLog, IsOnTheWay}
+use Rattle.relvar_logs.specs.LoggedChanges.{is_log_of, logs_of, IsChangeOf, AreChanging}
+use Rattle.relvar_logs.specs.Passed.{ArePassed, IsBrought, IsChangingLog, IsOnTheWay}
 use Rattle.relvar_logs.proofs.TurningLemmas.{all_in_step}
 
 -- ---- one more
@@ -31,42 +31,42 @@ passed_set n all (e ∷ es) (x ∷ raw) (suc i) w k r is f are = (are.0, are.1, 
 
 -- ---- where the one log of a relvar is brought to it
 
-module _ (n : ℤ) (all : Entries) (name : Name) (come : Relation) where
+module _ (n : ℤ) (all : Entries) (name : Name) (come gone : Relation) where
   -- an entry that is no log of the name
-  other_way : (r : PlainRelvar) → IsGainOf (n -ℤ pos 1) all name come r → is_log_of name r ≡ false → IsOnTheWay n all r r
+  other_way : (r : PlainRelvar) → IsChangeOf (n -ℤ pos 1) all name come gone r → is_log_of name r ≡ false → IsOnTheWay n all r r
   other_way (base value constraints) is other = inl (refl, tt)
   other_way (view t history) is other = inl (refl, tt)
   other_way (log of side last value) is other = inl (refl, is.1 other)
 
   -- the log of the name
-  pub own_gaining : (r : PlainRelvar) → IsGainOf (n -ℤ pos 1) all name come r → is_log_of name r ≡ true → IsGainingLog (n -ℤ pos 1) all come r
-  own_gaining (base value constraints) is own = tt
-  own_gaining (view t history) is own = tt
-  own_gaining (log of side last value) is own = is.0 own
+  pub own_changing : (r : PlainRelvar) → IsChangeOf (n -ℤ pos 1) all name come gone r → is_log_of name r ≡ true → IsChangingLog (n -ℤ pos 1) all come gone r
+  own_changing (base value constraints) is own = tt
+  own_changing (view t history) is own = tt
+  own_changing (log of side last value) is own = is.0 own
 
-  pub gaining_there : (es : Entries) (i : ℕ) → AreGaining (n -ℤ pos 1) all name come es → IsSoAt i (λ r. is_log_of name r ≡ true) es → IsSoAt i (IsGainingLog (n -ℤ pos 1) all come) es
-  gaining_there [] i are h = absurd h
-  gaining_there (e ∷ es) zero are h = own_gaining e.1 (All-head (λ r. IsGainOf (n -ℤ pos 1) all name come r.1) e es are) h
-  gaining_there (e ∷ es) (suc i) are h = gaining_there es i (All-tail (λ r. IsGainOf (n -ℤ pos 1) all name come r.1) e es are) h
+  pub changing_there : (es : Entries) (i : ℕ) → AreChanging (n -ℤ pos 1) all name come gone es → IsSoAt i (λ r. is_log_of name r ≡ true) es → IsSoAt i (IsChangingLog (n -ℤ pos 1) all come gone) es
+  changing_there [] i are h = absurd h
+  changing_there (e ∷ es) zero are h = own_changing e.1 (All-head (λ r. IsChangeOf (n -ℤ pos 1) all name come gone r.1) e es are) h
+  changing_there (e ∷ es) (suc i) are h = changing_there es i (All-tail (λ r. IsChangeOf (n -ℤ pos 1) all name come gone r.1) e es are) h
 
-  pub none_passed : (es : Entries) → AreGaining (n -ℤ pos 1) all name come es → All (λ r. is_log_of name r.1 ≡ false) es → ArePassed n all zero es es
+  pub none_passed : (es : Entries) → AreChanging (n -ℤ pos 1) all name come gone es → All (λ r. is_log_of name r.1 ≡ false) es → ArePassed n all zero es es
   none_passed [] are none = tt
   none_passed (e ∷ es) are none = (
     refl,
-    other_way e.1 (All-head (λ r. IsGainOf (n -ℤ pos 1) all name come r.1) e es are) (All-head (λ r. is_log_of name r.1 ≡ false) e es none),
-    none_passed es (All-tail (λ r. IsGainOf (n -ℤ pos 1) all name come r.1) e es are) (All-tail (λ r. is_log_of name r.1 ≡ false) e es none),
+    other_way e.1 (All-head (λ r. IsChangeOf (n -ℤ pos 1) all name come gone r.1) e es are) (All-head (λ r. is_log_of name r.1 ≡ false) e es none),
+    none_passed es (All-tail (λ r. IsChangeOf (n -ℤ pos 1) all name come gone r.1) e es are) (All-tail (λ r. is_log_of name r.1 ≡ false) e es none),
   )
 
   -- no log of the name
-  no_logs_passed : (es : Entries) → AreGaining (n -ℤ pos 1) all name come es → length (logs_of name es) ≤ 0 → ArePassed n all zero es es
+  no_logs_passed : (es : Entries) → AreChanging (n -ℤ pos 1) all name come gone es → length (logs_of name es) ≤ 0 → ArePassed n all zero es es
   no_logs_passed [] are none = tt
   no_logs_passed (e ∷ es) are none =
-      by (is_log_of name e.1) refl (no_logs_passed es (All-tail (λ r. IsGainOf (n -ℤ pos 1) all name come r.1) e es are)) none
+      by (is_log_of name e.1) refl (no_logs_passed es (All-tail (λ r. IsChangeOf (n -ℤ pos 1) all name come gone r.1) e es are)) none
     where
       by : (b : Bool) → is_log_of name e.1 ≡ b → (length (logs_of name es) ≤ 0 → ArePassed n all zero es es) → length (cond b (e ∷ logs_of name es) (logs_of name es)) ≤ 0
           → ArePassed n all zero (e ∷ es) (e ∷ es)
       by true q rest l = absurd (omega (arith, l))
-      by false q rest l = (refl, other_way e.1 (All-head (λ r. IsGainOf (n -ℤ pos 1) all name come r.1) e es are) q, rest l)
+      by false q rest l = (refl, other_way e.1 (All-head (λ r. IsChangeOf (n -ℤ pos 1) all name come gone r.1) e es are) q, rest l)
 
   some_log : (es : Entries) (i : ℕ) → IsSoAt i (λ r. is_log_of name r ≡ true) es → 1 ≤ length (logs_of name es)
   some_log [] i h = absurd h
@@ -77,26 +77,26 @@ module _ (n : ℤ) (all : Entries) (name : Name) (come : Relation) where
       by true l = omega (arith, l)
       by false l = l
 
-  pub gained_passed : (es fs : Entries) (i : ℕ) → AreGaining (n -ℤ pos 1) all name come es → length (logs_of name es) ≤ 1 → IsSoAt i (λ r. is_log_of name r ≡ true) es
+  pub changed_passed : (es fs : Entries) (i : ℕ) → AreChanging (n -ℤ pos 1) all name come gone es → length (logs_of name es) ≤ 1 → IsSoAt i (λ r. is_log_of name r ≡ true) es
       → fs ≡ turned_at i (turned_relvar all) es → IsSoAt i (IsInStep n all) fs → ArePassed n all zero es fs
-  gained_passed es fs i are once h is step =
+  changed_passed es fs i are once h is step =
       subst (ArePassed n all zero es) (sym is) (by_entry es i are once h (subst (IsSoAt i (IsInStep n all)) is step))
     where
-      by_entry : (es : Entries) (i : ℕ) → AreGaining (n -ℤ pos 1) all name come es → length (logs_of name es) ≤ 1 → IsSoAt i (λ r. is_log_of name r ≡ true) es
+      by_entry : (es : Entries) (i : ℕ) → AreChanging (n -ℤ pos 1) all name come gone es → length (logs_of name es) ≤ 1 → IsSoAt i (λ r. is_log_of name r ≡ true) es
           → IsSoAt i (IsInStep n all) (turned_at i (turned_relvar all) es) → ArePassed n all zero es (turned_at i (turned_relvar all) es)
       by_entry [] i are once h step = absurd h
       by_entry (e ∷ es) zero are once h step =
           let size = ap (λ (b : Bool). length (cond b (e ∷ logs_of name es) (logs_of name es))) h in
-          (refl, inr (record { is = refl; step = step }), no_logs_passed es (All-tail (λ r. IsGainOf (n -ℤ pos 1) all name come r.1) e es are) (omega (arith, size, once)))
+          (refl, inr (record { is = refl; step = step }), no_logs_passed es (All-tail (λ r. IsChangeOf (n -ℤ pos 1) all name come gone r.1) e es are) (omega (arith, size, once)))
       by_entry (e ∷ es) (suc i) are once h step =
           let some = some_log es i h in
-          let rest = by_entry es i (All-tail (λ r. IsGainOf (n -ℤ pos 1) all name come r.1) e es are) in
+          let rest = by_entry es i (All-tail (λ r. IsChangeOf (n -ℤ pos 1) all name come gone r.1) e es are) in
           other (is_log_of name e.1) refl some once (λ l. rest l h step)
         where
           other : (b : Bool) → is_log_of name e.1 ≡ b → 1 ≤ length (logs_of name es) → length (cond b (e ∷ logs_of name es) (logs_of name es)) ≤ 1
               → (length (logs_of name es) ≤ 1 → ArePassed n all zero es (turned_at i (turned_relvar all) es)) → ArePassed n all zero (e ∷ es) (e ∷ turned_at i (turned_relvar all) es)
           other true q some l rest = absurd (omega (arith, some, l))
-          other false q some l rest = (refl, other_way e.1 (All-head (λ r. IsGainOf (n -ℤ pos 1) all name come r.1) e es are) q, rest l)
+          other false q some l rest = (refl, other_way e.1 (All-head (λ r. IsChangeOf (n -ℤ pos 1) all name come gone r.1) e es are) q, rest l)
 
 -- ---- all
 

@@ -1,6 +1,6 @@
 pub mod Changes
 pub mod Fitting
-pub mod Gains
+pub mod LoggedChanges
 pub mod Opening
 pub mod Passed
 pub mod Room

@@ -1,27 +1,27 @@
 -- Logs on their way to a statement, some of which tell it already.
---     IsGainingLog      a log that has room for the rows that its relvar gained, and does not tell them yet
---     IsGrown      the log that tells them
+--     IsChangingLog      a log that has room for the rows that its relvar gained and lost, and does not tell them yet
+--     IsChanged      the log that tells them
 --     IsBrought      an entry that is brought to the statement
 --     IsOnTheWay      an entry that is, or that tells the statement before
 --     ArePassed      the entries, the first so many of which are brought to it
 use Rattle.std.specs.Prelude.{◌≡◌, ◌⊎◌, ℕ, zero, suc, ℤ, pos, ◌-ℤ◌, [], ◌∷◌}
 use Rattle.value_core.specs.Values.{Relation}
-use Rattle.relation_core.specs.Operators.{united}
 use Rattle.log_times.specs.Kept.{PlainLog, log_relation, IsLog}
 use Rattle.log_times.specs.Told.{value_after}
+use Rattle.log_times.specs.Turns.{exchanged}
 use Rattle.log_turns.specs.Turned.{IsAfter}
 use Rattle.tree_core.specs.Relvars.{PlainRelvar, base, view, log, Entries}
 use Rattle.meaning_core.specs.Logs.{turned_relvar, IsInStep}
-use Rattle.relvar_logs.specs.Gains.{IsGaining}
+use Rattle.relvar_logs.specs.LoggedChanges.{IsChanging}
 
-abbrev pub IsGainingLog : ℤ → Entries → Relation → PlainRelvar → Type 0
-IsGainingLog n all come (base value constraints) = Unit {0}
-IsGainingLog n all come (view t history) = Unit {0}
-IsGainingLog n all come (log of side last value) = IsGaining n all come of side last value
+abbrev pub IsChangingLog : ℤ → Entries → Relation → Relation → PlainRelvar → Type 0
+IsChangingLog n all come gone (base value constraints) = Unit {0}
+IsChangingLog n all come gone (view t history) = Unit {0}
+IsChangingLog n all come gone (log of side last value) = IsChanging n all come gone of side last value
 
--- the log t after the statement n, where it was l before and its relvar gained these rows
-pub record IsGrown (l : PlainLog) (come : Relation) (n : ℤ) (t : PlainLog) : Type 0 where
-  pub after : IsAfter l (record { heading = come.heading; rows = united (value_after l.side l.last (log_relation l).rows) come.rows }) n t
+-- the log t after the statement n, where it was l before and its relvar gained and lost these rows
+pub record IsChanged (l : PlainLog) (come gone : Relation) (n : ℤ) (t : PlainLog) : Type 0 where
+  pub after : IsAfter l (record { heading = come.heading; rows = exchanged (value_after l.side l.last (log_relation l).rows) come.rows gone.rows }) n t
   pub is : IsLog t
 
 -- what an entry is after the statement n, after which these are the relvars

@@ -1,19 +1,18 @@
-// One entry where a base relvar gained rows.
-ghost use Rattle.std.specs.Prelude.{◌≡◌, ◌≤◌, ◌+◌, ◌<ℤ◌, ◌-ℤ◌, pos, false, length, IfSome, IsTrue, OnErr, OnOk};
-ghost use Rattle.base_core.specs.Sets.{has};
+// One entry where a base relvar gained and lost rows.
+ghost use Rattle.std.specs.Prelude.{◌≡◌, ◌≤◌, ◌+◌, ◌<ℤ◌, ◌-ℤ◌, pos, length, IfSome, OnErr, OnOk};
 ghost use Rattle.point_core.specs.Whole.{greatest_whole, least_whole};
-ghost use Rattle.value_core.specs.Values.{Name as PlainName, Row, most_rows, row_cmp};
+ghost use Rattle.value_core.specs.Values.{Name as PlainName, most_rows};
 ghost use Rattle.log_times.specs.Kept.{log_relation};
 ghost use Rattle.log_times.specs.Told.{value_after};
-ghost use Rattle.log_times.specs.Turns.{without};
+ghost use Rattle.log_times.specs.Turns.{without, IsExact};
 ghost use Rattle.tree_core.specs.Relvars.{log, read_relvar, Entries, PlainRelvar};
 ghost use Rattle.meaning_core.specs.Logs.{turned_relvar, IsInStep};
-ghost use Rattle.relvar_logs.specs.Gains.{is_log_of};
-ghost use Rattle.relvar_logs.specs.Passed.{IsBrought, IsGainingLog, IsGrown, IsOnTheWay};
+ghost use Rattle.relvar_logs.specs.LoggedChanges.{is_log_of};
+ghost use Rattle.relvar_logs.specs.Passed.{IsBrought, IsChangingLog, IsChanged, IsOnTheWay};
 ghost use Rattle.relvar_logs.specs.Fitting.{IsCounted, IsFitting};
 
 use log_times::Log;
-use log_turns::gain;
+use log_turns::change;
 use point_core::Memory;
 use std::alloc::Global;
 use tree_core::Relvar;
@@ -66,23 +65,24 @@ fn rows_of(relvar: &Relvar) -> usize
     }
 }
 
-/// Brings a log to the statement of this number, in which its relvar gained these rows. Others stay.
-pub(crate) fn gain_relvar(
+/// Brings a log to the statement of this number, in which its relvar gained and lost these rows. Others stay.
+pub(crate) fn change_relvar(
     alloc: Global,
     relvar: &mut Relvar,
     come: &Relation,
+    gone: &Relation,
     number: i64,
 ) -> Result<(), Memory>
     ghost all: { Entries }
     requires first { least_whole <ℤ number }
     requires room { number <ℤ greatest_whole }
-    requires gaining { IsGainingLog (number -ℤ pos 1) all come.now (read_relvar relvar.old) }
+    requires changing { IsChangingLog (number -ℤ pos 1) all come.now gone.now (read_relvar relvar.old) }
     ensures turned { OnOk result (read_relvar relvar.new ≡ turned_relvar all (read_relvar relvar.old)) }
     ensures step { OnOk result (IsInStep number all (read_relvar relvar.new)) }
     ensures err { OnErr result (read_relvar relvar.new ≡ read_relvar relvar.old) }
 {
     match relvar {
-        Relvar::Log { of: _, log } => gain_log(alloc, log, come, number),
+        Relvar::Log { of: _, log } => change_one(alloc, log, come, gone, number),
         Relvar::Base {
             value: _,
             constraints: _,
@@ -94,19 +94,26 @@ pub(crate) fn gain_relvar(
     }
 }
 
-// Brings the log to the statement of this number, in which its relvar gained these rows.
-fn gain_log(alloc: Global, log: &mut Log, come: &Relation, number: i64) -> Result<(), Memory>
-    requires heading { come.now.heading ≡ without log.old.side log.old.stored.heading }
+// Brings the log to the statement of this number, in which its relvar gained and lost these rows.
+fn change_one(
+    alloc: Global,
+    log: &mut Log,
+    come: &Relation,
+    gone: &Relation,
+    number: i64,
+) -> Result<(), Memory>
+    requires come { come.now.heading ≡ without log.old.side log.old.stored.heading }
+    requires gone { gone.now.heading ≡ without log.old.side log.old.stored.heading }
     requires first { least_whole <ℤ number }
     requires next { log.old.last ≡ number -ℤ pos 1 }
     requires last { number <ℤ greatest_whole }
-    requires new { (x : Row) → IsTrue (has row_cmp come.now.rows x) → has row_cmp (value_after log.old.side log.old.last (log_relation log.old).rows) x ≡ false }
-    requires few { length (log_relation log.old).rows + length come.now.rows ≤ most_rows }
-    ensures grown { OnOk result (IsGrown log.old come.now number log.new) }
+    requires exact { IsExact (value_after log.old.side log.old.last (log_relation log.old).rows) come.now.rows gone.now.rows }
+    requires few { length (log_relation log.old).rows + (length come.now.rows + length gone.now.rows) ≤ most_rows }
+    ensures changed { OnOk result (IsChanged log.old come.now gone.now number log.new) }
     ensures err { OnErr result (log.new ≡ log.old) }
 {
     let _ = log.stored();
-    gain(alloc, log, come, number)?;
+    change(alloc, log, come, gone, number)?;
     let _ = log.stored();
     Ok(())
 }

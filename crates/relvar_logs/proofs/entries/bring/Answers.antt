@@ -1,6 +1,6 @@
 use Rattle.std.proofs.Common.{rules, ◌≡◌, ◌<ℤ◌, ℤ, ap, ◌∙◌, w64, to_z, of_z}
 use Rattle.std.proofs.lemmas.Int.{to_z-of_z}
-use Rattle.relvar_logs.proofs.GrownLemmas.{brought_now}
+use Rattle.relvar_logs.proofs.ChangedLemmas.{brought_now}
 use Rattle.relvar_logs.proofs.entries.bring.Goals as goal
 
 pub returns-then-last-number : goal.returns-then-last-number

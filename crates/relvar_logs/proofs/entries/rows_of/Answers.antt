@@ -3,7 +3,7 @@ use Rattle.value_core.specs.Values.{Relation, IsRelation}
 use Rattle.tree_core.specs.declared.relvar.Relvar.{Relvar}
 use Rattle.tree_core.specs.Relvars.{read_relvar}
 use Rattle.relvar_logs.specs.Fitting.{IsCounted}
-use Rattle.relvar_logs.proofs.GrownLemmas.{rows_counted}
+use Rattle.relvar_logs.proofs.ChangedLemmas.{rows_counted}
 use Rattle.relvar_logs.proofs.entries.rows_of.Goals as goal
 
 pub returns-in-Log : goal.returns-in-Log
