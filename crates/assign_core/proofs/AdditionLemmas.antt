@@ -1,5 +1,4 @@
 -- What becomes of a base relvar that gets a new value, or other rows.
---     value_refused      there is no value
 --     exchange_ready      rows of it are exchanged
 --     value_ready      the value that stands ready for it
 --     few_turned      whether there are too many rows of all relvars then
@@ -8,23 +7,19 @@ use Rattle.std.proofs.lemmas.Bool.Decides.{nat_tests}
 use Rattle.std.specs.Prelude.{slice_set}
 use Rattle.std.specs.List.{IsDistinct}
 use Rattle.std.specs.Str.{bytes_eq}
-use Rattle.base_core.specs.Outcomes.{then_give}
 use Rattle.point_core.specs.Faults.{OrFault, fault}
 use Rattle.point_core.specs.declared.fault.Code.TheVariants.{E35}
 use Rattle.point_core.specs.declared.fault.Place.{Place}
-use Rattle.point_core.specs.declared.fault.Stop.{Stop}
-use Rattle.point_core.specs.declared.fault.Stop.TheVariants.{Fault as Faulted, Memory as OfMemory}
-use Rattle.value_core.specs.Refusals.{refusal_of}
 use Rattle.value_core.specs.Limits.{most_rows_in_all}
 use Rattle.value_core.specs.Values.{Name, Row, Relation, most_rows}
-use Rattle.relation_core.specs.Answers.{Answers, under}
+use Rattle.relation_core.specs.Answers.{under}
 use Rattle.u_constraints.specs.Growth.{exchanged}
 use Rattle.change_rows.specs.declared.exchange.Exchange.{Exchange}
 use Rattle.tree_core.specs.Relvars.{Entries}
 use Rattle.meaning_core.specs.Meanings.{RowsMeant, limited}
 use Rattle.meaning_core.specs.Names.{given}
 use Rattle.meaning_core.proofs.LimitLemmas.{limited_few}
-use Rattle.assign_core.specs.Assignments.{with_target, of_values, IsRefusedFor}
+use Rattle.assign_core.specs.Assignments.{with_target}
 use Rattle.assign_core.specs.Breaches.{rows_of_all}
 use Rattle.relvar_logs.specs.Changes.{Changes, AreChanges, changed}
 use Rattle.assign_core.specs.Turnovers.{renewed_at, IsCounted, IsTurnoverOf}
@@ -37,11 +32,6 @@ use Rattle.assign_core.proofs.TurnoverLemmas.{few_after, renewed_given, rows_ren
 -- rows that are too many
 pub limited_over : (place : Place) (rs : List Row) → most_rows < length rs → limited place rs ≡ Err (fault place E35)
 limited_over place rs h = grind (arith, nat_tests)
-
--- the value that there is not
-pub value_refused : (m : OrFault Relation) (k : Relation → OrFault Entries) (stop : Stop) → Answers {A = Relation} (Err stop) m → IsRefusedFor (refusal_of stop) (of_values (then_give m k))
-value_refused m k (Faulted f) told = ap (λ (r : OrFault Relation). of_values (then_give r k)) told
-value_refused m k OfMemory told = tt
 
 module _ (t : Target) (k : IsTarget t) (different : IsDistinct bytes_eq (names_in (entries_before t))) where
   abbrev es : Entries

@@ -33,7 +33,7 @@ use Rattle.meaning_core.specs.Names.{found, given, given_relvar, with_value}
 use Rattle.meaning_core.specs.Rows.{extended_row, group_row}
 use Rattle.meaning_core.proofs.LookupLemmas.{under_ok}
 use Rattle.meaning_core.proofs.MadeLemmas.{same_name, own_name}
-use Rattle.relvar_logs.specs.Gains.{is_log_of}
+use Rattle.relvar_logs.specs.LoggedChanges.{is_log_of}
 use Rattle.relvar_logs.specs.Room.{are_each_few, log_count, rows_of_logs}
 use Rattle.relvar_logs.specs.Turning.{AreNext}
 use Rattle.assign_core.specs.Assignments.{seen_by, source_value, with_target, evaluated, of_values, after_assignments, unless_rule_broken}

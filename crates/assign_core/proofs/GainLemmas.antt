@@ -4,7 +4,7 @@
 --     named_given, named_other      what names stand for where it has
 --     rows_given      how many rows there are then
 --     grown_back      rows that are new, taken out of both
---     are_gaining      the logs where the base relvar has gained rows
+--     are_to_change, are_changing      the logs where the base relvar gains and loses rows
 --     room_given      the room of logs where the base relvar has another value
 use Rattle.std.proofs.Common.{◌≡◌, ◌⊎◌, inl, inr, ℕ, zero, suc, ◌+◌, ◌≤◌, ℤ, Bool, true, false, cond, List, [], ◌∷◌, length, refl, sym, ap, ap₂, subst, ◌∙◌, arith, true≢false, Some, nat_le}
 use Rattle.std.specs.Prelude.{◌&&◌}
@@ -21,22 +21,21 @@ use Rattle.value_core.specs.Values.{Name, Row, Relation, row_cmp, most_rows}
 use Rattle.relation_core.specs.Operators.{united, subtracted}
 use Rattle.relation_core.proofs.FilterLemmas.{length-filter_at_most}
 use Rattle.log_times.specs.Told.{value_after}
+use Rattle.log_times.specs.Turns.{without, exchanged, IsExact}
 use Rattle.tree_core.specs.Relvars.{PlainRelvar, base, view, log, Entries, relvar_named, heading_if}
 use Rattle.meaning_core.specs.Logs.{base_rows, IsInStep}
 use Rattle.meaning_core.specs.Names.{given, given_relvar, with_value, IsFirstAt}
 use Rattle.meaning_core.proofs.EntryLemmas.{given_first, named_first}
 use Rattle.meaning_core.proofs.MadeLemmas.{same_name, own_name}
 use Rattle.relvar_logs.specs.Changes.{turned_at}
-use Rattle.relvar_logs.specs.Gains.{is_log_of, logs_of, IsGaining, IsGainOf, AreGaining, HasEnded, HasRoomForGain}
+use Rattle.relvar_logs.specs.LoggedChanges.{is_log_of, logs_of, IsChanging, IsChangeOf, AreChanging, HasEnded, HasRoomForChange}
 use Rattle.relvar_logs.specs.Room.{are_each_few, log_count, rows_of_logs}
 use Rattle.relvar_logs.specs.Turning.{IsOfBase}
 use Rattle.assign_core.specs.Breaches.{count_of, rows_of_all}
 use Rattle.assign_core.specs.Gained.{less}
 use Rattle.assign_core.specs.Parts.{names_in}
 use Rattle.assign_core.proofs.ExchangeLemmas.{turned_twice}
-use Rattle.assign_core.proofs.InTurnLemmas.{apart_left}
 use Rattle.assign_core.proofs.NameLemmas.{turned}
-use Rattle.assign_core.proofs.TurnoverLemmas.{united_new}
 
 -- ---- a base relvar with another value
 
@@ -121,58 +120,64 @@ grown_back old rows a =
 pub fewer_new : (old rows : List Row) → length (subtracted rows old) ≤ length rows
 fewer_new old rows = length-filter_at_most _ rows
 
--- ---- logs where the base relvar has gained rows
+-- ---- logs where the base relvar has gained and lost rows
 
-module _ (n : ℤ) (es : Entries) (name : Name) (i : ℕ) (v : Relation) (cs : List Constraint) (rows come : Relation) (first : IsFirstAt es name i (base v cs))
-    (headed : rows.heading ≡ v.heading) (come_headed : come.heading ≡ rows.heading) (new : come.rows ≡ subtracted rows.rows v.rows) where
-  abbrev grown : Relation
-  grown = record { heading = rows.heading; rows = united v.rows rows.rows }
-
+module _ (n : ℤ) (es : Entries) (name : Name) (i : ℕ) (v : Relation) (cs : List Constraint) (w come gone : Relation) (more : ℕ) (first : IsFirstAt es name i (base v cs))
+    (came : come.heading ≡ v.heading) (went : gone.heading ≡ v.heading) (less : length come.rows + length gone.rows ≤ more) (exact : IsExact v.rows come.rows gone.rows)
+    (same : w.rows ≡ exchanged v.rows come.rows gone.rows) where
   abbrev all : Entries
-  all = given (Some name) (Some grown) es
+  all = given (Some name) (Some w) es
 
-  gaining : (of : Name) (side : ℕ) (last : ℤ) (value : Relation) → of ≡ name → IsInStep n es (log of side last value) → IsOfBase es (log of side last value)
-      → length value.rows + length rows.rows ≤ most_rows → IsGaining n all come of side last value
-  gaining of side last value is step owner few =
+  changing : (of : Name) (side : ℕ) (last : ℤ) (value : Relation) → of ≡ name → IsInStep n es (log of side last value) → IsOfBase es (log of side last value)
+      → length value.rows + more ≤ most_rows → IsChanging n all come gone of side last value
+  changing of side last value is step owner few =
       let found : relvar_named es of ≡ Some (base v cs) = ap (relvar_named es) is ∙ named_first es name i (base v cs) first in
       let told : value_after side last value.rows ≡ v.rows = step.1 ∙ ap base_rows found in
-      let less : length come.rows ≤ length rows.rows = subst (λ (zs : List Row). length zs ≤ length rows.rows) (sym new) (fewer_new v.rows rows.rows) in
+      let headed : v.heading ≡ without side value.heading = sym (ap heading_if found) ∙ sym owner.1 in
       record {
         last_is = step.0;
-        gained = ap base_rows (ap (relvar_named all) is ∙ named_given es name i v cs grown first)
-            ∙ (sym (united_new v.rows rows.rows) ∙ (λ t. united (sym told t) (sym new t)));
-        new = λ x h. ap (λ (zs : List Row). has row_cmp zs x) told ∙ apart_left rows.rows v.rows x (ap (λ (zs : List Row). has row_cmp zs x) (sym new) ∙ h);
+        changed = ap base_rows (ap (relvar_named all) is ∙ named_given es name i v cs w first) ∙ (same ∙ ap (λ (zs : List Row). exchanged zs come.rows gone.rows) (sym told));
+        exact = subst (λ (zs : List Row). IsExact zs come.rows gone.rows) (sym told) exact;
         few = omega (arith, less, few);
-        headed = come_headed ∙ (headed ∙ (sym (ap heading_if found) ∙ sym owner.1));
+        come_headed = came ∙ headed;
+        gone_headed = went ∙ headed;
       }
 
-  one : (r : PlainRelvar) → IsInStep n es r → IsOfBase es r → (is_log_of name r ≡ true → log_count r + length rows.rows ≤ most_rows) → IsGainOf n all name come r
+  one : (r : PlainRelvar) → IsInStep n es r → IsOfBase es r → (is_log_of name r ≡ true → log_count r + more ≤ most_rows) → IsChangeOf n all name come gone r
   one (base value constraints) step owner few = tt
   one (view t history) step owner few = tt
   one (log of side last value) step owner few =
-      (λ e. gaining of side last value (same_name of name e) step owner (few e), λ e. (step.0, step.1 ∙ sym (ap base_rows (named_other es name of grown e))))
+      (λ e. changing of side last value (same_name of name e) step owner (few e), λ e. (step.0, step.1 ∙ sym (ap base_rows (named_other es name of w e))))
 
-  of_given : (own : Name) (r : PlainRelvar) → IsGainOf n all name come r → IsGainOf n all name come (given_relvar (Some name) (Some grown) own r)
+  of_all : (fs : Entries) → All (λ r. IsInStep n es r.1) fs → All (λ r. IsOfBase es r.1) fs → All (λ r. is_log_of name r.1 ≡ true → log_count r.1 + more ≤ most_rows) fs → AreChanging n all name come gone fs
+  of_all [] step owner few = All-nil (λ r. IsChangeOf n all name come gone r.1)
+  of_all (f ∷ fs) step owner few =
+      All-cons (λ r. IsChangeOf n all name come gone r.1) f fs
+      (one f.1 (All-head (λ r. IsInStep n es r.1) f fs step) (All-head (λ r. IsOfBase es r.1) f fs owner) (All-head (λ r. is_log_of name r.1 ≡ true → log_count r.1 + more ≤ most_rows) f fs few))
+      (of_all fs (All-tail (λ r. IsInStep n es r.1) f fs step) (All-tail (λ r. IsOfBase es r.1) f fs owner) (All-tail (λ r. is_log_of name r.1 ≡ true → log_count r.1 + more ≤ most_rows) f fs few))
+
+  -- the logs do not tell the change yet, nor does the base relvar have it
+  pub are_to_change : All (λ r. IsInStep n es r.1) es → All (λ r. IsOfBase es r.1) es → All (λ r. is_log_of name r.1 ≡ true → log_count r.1 + more ≤ most_rows) es → AreChanging n all name come gone es
+  are_to_change step owner few = of_all es step owner few
+
+  of_given : (own : Name) (r : PlainRelvar) → IsChangeOf n all name come gone r → IsChangeOf n all name come gone (given_relvar (Some name) (Some w) own r)
   of_given own r h = by (bytes_eq own name) r h
     where
-      by : (b : Bool) (q : PlainRelvar) → IsGainOf n all name come q → IsGainOf n all name come (cond b (with_value grown q) q)
+      by : (b : Bool) (q : PlainRelvar) → IsChangeOf n all name come gone q → IsChangeOf n all name come gone (cond b (with_value w q) q)
       by true (base value constraints) k = tt
       by true (view t history) k = tt
       by true (log of side last value) k = k
       by false q k = k
 
-  of_all : (fs : Entries) → All (λ r. IsInStep n es r.1) fs → All (λ r. IsOfBase es r.1) fs → All (λ r. is_log_of name r.1 ≡ true → log_count r.1 + length rows.rows ≤ most_rows) fs
-      → AreGaining n all name come (given (Some name) (Some grown) fs)
-  of_all [] step owner few = All-nil (λ r. IsGainOf n all name come r.1)
-  of_all (f ∷ fs) step owner few =
-      All-cons (λ r. IsGainOf n all name come r.1) (f.0, given_relvar (Some name) (Some grown) f.0 f.1) (given (Some name) (Some grown) fs)
-      (of_given f.0 f.1 (one f.1 (All-head (λ r. IsInStep n es r.1) f fs step) (All-head (λ r. IsOfBase es r.1) f fs owner)
-      (All-head (λ r. is_log_of name r.1 ≡ true → log_count r.1 + length rows.rows ≤ most_rows) f fs few)))
-      (of_all fs (All-tail (λ r. IsInStep n es r.1) f fs step) (All-tail (λ r. IsOfBase es r.1) f fs owner)
-      (All-tail (λ r. is_log_of name r.1 ≡ true → log_count r.1 + length rows.rows ≤ most_rows) f fs few))
+  all_given : (fs : Entries) → AreChanging n all name come gone fs → AreChanging n all name come gone (given (Some name) (Some w) fs)
+  all_given [] h = All-nil (λ r. IsChangeOf n all name come gone r.1)
+  all_given (f ∷ fs) h =
+      All-cons (λ r. IsChangeOf n all name come gone r.1) (f.0, given_relvar (Some name) (Some w) f.0 f.1) (given (Some name) (Some w) fs)
+      (of_given f.0 f.1 (All-head (λ r. IsChangeOf n all name come gone r.1) f fs h)) (all_given fs (All-tail (λ r. IsChangeOf n all name come gone r.1) f fs h))
 
-  pub are_gaining : All (λ r. IsInStep n es r.1) es → All (λ r. IsOfBase es r.1) es → All (λ r. is_log_of name r.1 ≡ true → log_count r.1 + length rows.rows ≤ most_rows) es → AreGaining n all name come all
-  are_gaining step owner few = of_all es step owner few
+  -- the base relvar has it
+  pub are_changing : All (λ r. IsInStep n es r.1) es → All (λ r. IsOfBase es r.1) es → All (λ r. is_log_of name r.1 ≡ true → log_count r.1 + more ≤ most_rows) es → AreChanging n all name come gone all
+  are_changing step owner few = all_given es (of_all es step owner few)
 
 -- ---- the room of logs
 
@@ -237,7 +242,7 @@ module _ (name own : Name) (w : Relation) where
       by true (log of side last value) k = k
       by false r k = k
 
-  pub room_given : (more most room : ℕ) (es : Entries) → HasRoomForGain name more most room es → HasRoomForGain name more most room (given (Some own) (Some w) es)
+  pub room_given : (more most room : ℕ) (es : Entries) → HasRoomForChange name more most room es → HasRoomForChange name more most room (given (Some own) (Some w) es)
   room_given more most room es h = record {
     once = let once = h.once in let same = logs_given es in omega (arith, once, same);
     fits = let fits = h.fits in let same = counts_given es in omega (arith, fits, same);

@@ -4,17 +4,16 @@
 --     found_base      the base relvar is found
 --     gains, once, within      the state with the rows, in which its log is to gain them
 --     is_back      the state after they are taken out again
-use Rattle.std.proofs.Common.{◌≡◌, ℕ, zero, suc, ◌+◌, ◌<◌, ◌≤◌, ℤ, Bool, true, false, cond, nat_le, List, [], ◌∷◌, map, length, refl, sym, ap, subst, ◌∙◌, arith, Option, Some, None, Ok, Err}
-use Rattle.std.specs.Prelude.{◌&&◌}
-use Rattle.std.specs.List.{All}
-use Rattle.std.proofs.lemmas.Bool.Decides.{nat_tests}
+use Rattle.std.proofs.Common.{◌≡◌, ℕ, zero, suc, ◌+◌, ◌<◌, ◌≤◌, ℤ, Bool, true, false, cond, nat_le, List, [], ◌∷◌, map, length, refl, sym, ap, ap₂, subst, ◌∙◌, arith, Option, Some, None, Ok, Err}
+use Rattle.base_core.specs.Sets.{has}
 use Rattle.point_core.specs.declared.fault.Code.TheVariants.{E46}
 use Rattle.point_core.specs.declared.fault.Place.{Place}
 use Rattle.point_core.specs.Faults.{OrFault}
 use Rattle.value_core.specs.declared.refuse.Refuse.{Refuse}
 use Rattle.value_core.specs.declared.refuse.Refuse.TheVariants.{Plain}
 use Rattle.value_core.specs.Limits.{most_rows_in_all}
-use Rattle.value_core.specs.Values.{Name, Row, Relation}
+use Rattle.value_core.specs.Values.{Name, Row, Relation, row_cmp}
+use Rattle.log_times.specs.Turns.{IsExact}
 use Rattle.relation_core.specs.Operators.{united, subtracted}
 use Rattle.relation_core.proofs.FilterLemmas.{rows_ascend, rows_of-ascending}
 use Rattle.tree_core.specs.declared.relvar.Relvar.{Relvar}
@@ -22,16 +21,10 @@ use Rattle.tree_core.specs.declared.relvar.Relvars.{Relvars}
 use Rattle.tree_core.specs.Relvars.{base, Entries, Rules, State, PlainRelvar, read_entry, read_relvars, read_rule}
 use Rattle.meaning_core.specs.Logs.{turned_logs, AreInStep}
 use Rattle.meaning_core.specs.Names.{given, given_relvar, IsFirstAt}
-use Rattle.meaning_core.specs.WellMade.{sizes_of}
 use Rattle.meaning_core.proofs.EntryLemmas.{given_first, named_first}
 use Rattle.relvar_logs.specs.Changes.{turned_at}
-use Rattle.relvar_logs.specs.Gains.{logs_of, AreGaining}
-use Rattle.relvar_logs.specs.Room.{are_each_few, rows_of_logs}
-use Rattle.relvar_logs.specs.Turning.{IsOfBase}
+use Rattle.relvar_logs.specs.LoggedChanges.{logs_of, AreChanging}
 use Rattle.relvar_logs.proofs.EntryLemmas.{entries_length}
-use Rattle.relvar_logs.proofs.GainRoomLemmas.{turned_room}
-use Rattle.relvar_logs.proofs.NextLemmas.{of_base_there}
-use Rattle.relvar_logs.proofs.TurningLemmas.{all_there}
 use Rattle.assign_core.specs.Arrivals.{entries_then, IsArrival}
 use Rattle.assign_core.specs.Assignments.{kept_or_refused, of_values, unless_broken, unless_rule_broken}
 use Rattle.assign_core.specs.Breaches.{first_broken, first_rule_broken, rows_of_all}
@@ -40,14 +33,12 @@ use Rattle.assign_core.specs.Databases.{IsKept}
 use Rattle.assign_core.specs.Gained.{less, MayGain}
 use Rattle.assign_core.specs.Logs.{have_room, unless_full}
 use Rattle.assign_core.specs.NewRows.{joining, brought_in, joined_cost, values_brought, HasRoomFor, IsBaseWith, IsGivenTo, IsToldOf}
-use Rattle.assign_core.proofs.GainLemmas.{are_gaining, fewer_new, grown_back, room_given, rows_given, taken_back}
-use Rattle.assign_core.proofs.LogLemmas.{rows_turned}
+use Rattle.assign_core.proofs.GainLemmas.{fewer_new, grown_back, room_given, taken_back}
+use Rattle.assign_core.proofs.InTurnLemmas.{apart_left}
+use Rattle.assign_core.proofs.LoggedLemmas.{has_changed, fits_then}
 use Rattle.assign_core.proofs.NameLemmas.{relvars_differ}
 use Rattle.assign_core.proofs.NewRowLemmas.{is_new}
-use Rattle.assign_core.proofs.TurnoverLemmas.{few_together}
-
-sum_fits : (bases logs most : ℕ) (few : Bool) → bases + logs ≤ most → few ≡ true → (nat_le (bases + logs) most && few) ≡ true
-sum_fits bases logs most few l e = let fits : nat_le (bases + logs) most ≡ true = grind (arith, nat_tests) in λ i. fits i && e i
+use Rattle.assign_core.proofs.TurnoverLemmas.{none_go, united_new}
 
 pub entries_are : (rules : Rules) (all new : Entries) → unless_rule_broken rules (kept_or_refused all) ≡ Ok new → all ≡ new
 entries_are rules all new e = rows (nat_le (rows_of_all all) most_rows_in_all) e
@@ -76,25 +67,35 @@ module _ (s : State) (name : Name) (rows : Relation) (at : ℕ) (old : Relation)
   abbrev after : Entries
   after = given (Some name) (Some grown) s.relvars
 
-  owners : All (λ r. IsOfBase s.relvars r.1) s.relvars
-  owners = all_there (IsOfBase s.relvars) s.relvars (λ i l. of_base_there (sizes_of s.ordinals) s.relvars i kept.well_made.relvars l)
+  -- the rows that come are new, and none go
+  module _ (come gone : Relation) (new : come.rows ≡ subtracted rows.rows old.rows) (none : gone ≡ record { heading = old.heading; rows = [] }) where
+    few_come : length come.rows + length gone.rows ≤ length rows.rows
+    few_come =
+        let news : length come.rows ≡ length (subtracted rows.rows old.rows) = ap (λ (zs : List Row). length zs) new in
+        let no : length gone.rows ≡ 0 = ap (λ (r : Relation). length r.rows) none in
+        let fewer = fewer_new old.rows rows.rows in
+        omega (arith, news, no, fewer)
 
-  gaining : (come : Relation) → come.heading ≡ rows.heading → come.rows ≡ subtracted rows.rows old.rows → AreGaining s.accepted after name come after
-  gaining come headed new = are_gaining s.accepted s.relvars name at old may.base.constraints rows come may.base.first may.base.headed headed new step owners may.logs.few
+    all_come : IsExact old.rows come.rows gone.rows
+    all_come = subst (λ (r : Relation). IsExact old.rows come.rows r.rows) (sym none) (record {
+      new = λ x h. apart_left rows.rows old.rows x (ap (λ (zs : List Row). has row_cmp zs x) (sym new) ∙ h);
+      there = λ x h. absurd (cc);
+    })
+
+    with_all : united old.rows rows.rows ≡ subtracted (united old.rows come.rows) gone.rows
+    with_all = sym (ap₂ (λ (c : List Row) (r : Relation). subtracted (united old.rows c) r.rows) new none ∙ (none_go old.rows (subtracted rows.rows old.rows) ∙ united_new old.rows rows.rows))
+
+    gaining : come.heading ≡ rows.heading → AreChanging s.accepted after name come gone after
+    gaining headed =
+        has_changed s name at old may.base.constraints grown come gone (length rows.rows) kept step may.base.first (headed ∙ may.base.headed) (ap (λ (r : Relation). r.heading) none) few_come all_come with_all
+        may.fits
 
   has_room : have_room (turned_logs after) ≡ true
   has_room =
       let come : Relation = record { heading = rows.heading; rows = subtracted rows.rows old.rows } in
-      let beside = room_given name name grown (length rows.rows) most_rows_in_all may.room s.relvars may.logs in
-      let logs = turned_room s.accepted after name come (gaining come refl refl) beside.once beside.ended beside.each in
-      let more = logs.0 in
-      let fits = beside.fits in
-      let new = fewer_new old.rows rows.rows in
-      let turn = rows_turned after in
-      let bases = rows_given s.relvars name at old may.base.constraints grown may.base.first (relvars_differ s kept.well_made) in
-      let together = few_together old.rows rows.rows (length old.rows + length rows.rows) (omega arith) in
-      let few = may.few in
-      sum_fits (rows_of_all (turned_logs after)) (rows_of_logs (turned_logs after)) most_rows_in_all (are_each_few (turned_logs after)) (omega (arith, more, fits, new, turn, bases, together, few)) logs.1
+      let none : Relation = record { heading = old.heading; rows = [] } in
+      fits_then s name at old may.base.constraints grown come none (length rows.rows) kept step may.base.first may.base.headed refl (few_come come none refl refl) (all_come come none refl refl)
+      (with_all come none refl refl) may.fits
 
   abbrev found : IsBaseWith s name rows.heading
   found = record {
@@ -144,13 +145,14 @@ module _ (s : State) (name : Name) (rows : Relation) (at : ℕ) (old : Relation)
     now_is : mid ≡ record s { relvars = mid.relvars }
     now_is = (told old nowhere nowhere rows.rows given_to).1
 
-    pub gains : (come : Relation) → come.heading ≡ rows.heading → come.rows ≡ subtracted rows.rows old.rows → AreGaining mid.accepted mid.relvars name come mid.relvars
-    gains come headed new =
-        subst (λ (n : ℤ). AreGaining n mid.relvars name come mid.relvars) (sym (ap (λ (t : State). t.accepted) now_is))
-        (subst (λ (es : Entries). AreGaining s.accepted es name come es) became (gaining come headed new))
+    pub gains : (come gone : Relation) → come.heading ≡ rows.heading → come.rows ≡ subtracted rows.rows old.rows → gone ≡ record { heading = old.heading; rows = [] }
+        → AreChanging mid.accepted mid.relvars name come gone mid.relvars
+    gains come gone headed new none =
+        subst (λ (n : ℤ). AreChanging n mid.relvars name come gone mid.relvars) (sym (ap (λ (t : State). t.accepted) now_is))
+        (subst (λ (es : Entries). AreChanging s.accepted es name come gone es) became (gaining come gone new none headed))
 
     pub once : length (logs_of name mid.relvars) ≤ 1
-    once = subst (λ (es : Entries). length (logs_of name es) ≤ 1) became (room_given name name grown (length rows.rows) most_rows_in_all may.room s.relvars may.logs).once
+    once = subst (λ (es : Entries). length (logs_of name es) ≤ 1) became (room_given name name grown (length rows.rows) most_rows_in_all may.fits.room s.relvars may.fits.logs).once
 
     pub within : (raw : List (Name × Relvar)) → map read_entry raw ≡ mid.relvars → at < length raw
     within raw is =

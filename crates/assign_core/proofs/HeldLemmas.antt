@@ -10,7 +10,7 @@ use Rattle.change_rows.specs.declared.exchange.Exchange.{Exchange}
 use Rattle.assign_core.specs.declared.room.Held.{Held}
 use Rattle.assign_core.specs.Exchanges.{refilled, IsHeld}
 use Rattle.assign_core.proofs.InTurnLemmas.{exchanged_apart}
-use Rattle.assign_core.proofs.RemovalLemmas.{fewer_relation}
+use Rattle.row_removal.proofs.RemovalLemmas.{fewer_relation}
 
 pub held_relation : (value : Relation) (h : Held) (x : Exchange) (rows : List Row) → IsHeld value h x → IsRelation x.come → rows ≡ exchanged (drop h.empty h.rows.items) x.gone.rows x.come.rows
     → IsRelation (record { heading = value.heading; rows = rows })

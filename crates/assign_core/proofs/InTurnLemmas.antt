@@ -2,7 +2,7 @@
 --     taken_more      rows that are taken out in two goes
 --     exchanged_turn, exchanged_all      one comes as one goes, and then all have come and gone
 --     exchanged_apart      rows that come and go too may stay away
-use Rattle.std.proofs.Common.{◌≡◌, inl, inr, ℕ, zero, suc, ◌+◌, take, drop, ◌<◌, true, false, List, [], ◌∷◌, ◌++◌, length, get_or, refl, sym, ap, subst, ◌∙◌, arith, true≢false}
+use Rattle.std.proofs.Common.{◌≡◌, inl, inr, ℕ, ◌+◌, take, drop, ◌<◌, true, false, List, [], ◌∷◌, ◌++◌, length, get_or, sym, ap, subst, ◌∙◌, arith, true≢false}
 use Rattle.std.proofs.Math.Seq.{take-add}
 use Rattle.std.proofs.lemmas.Bool.{false_from_ne_true}
 use Rattle.std.proofs.lemmas.List.{take-append-drop}
@@ -13,6 +13,7 @@ use Rattle.base_core.proofs.SetOperatorLemmas.{In-difference_of, Ascends-differe
 use Rattle.value_core.specs.Values.{Row, row_cmp}
 use Rattle.value_core.specs.Order.{row_total, row_separates}
 use Rattle.relation_core.specs.Operators.{subtracted, united}
+use Rattle.row_removal.proofs.LeavingLemmas.{at_in, from_front}
 use Rattle.u_constraints.specs.Growth.{exchanged}
 use Rattle.u_constraints.proofs.GrowthLemmas.{all_left}
 
@@ -58,9 +59,6 @@ come_more old come gone x out =
     up : (rows : List Row) → Ascends row_cmp (exchanged old gone rows)
     up rows = Ascends-difference_of row_cmp row_total row_separates (united old rows) gone (Ascends-union_of row_cmp row_total row_separates old rows)
 
-from_front : (rows : List Row) (n : ℕ) (z : Row) → In z (take n rows) → In z rows
-from_front rows n z i = subst (λ (rs : List Row). In z rs) (take-append-drop n rows) ((In-append z (take n rows) (drop n rows)).1 (inl i))
-
 pub exchanged_turn : (old come gone : List Row) (k more : ℕ) (x : Row) → has row_cmp gone x ≡ false → more ≡ k + 1
     → subtracted (put row_cmp x (exchanged old (take k gone) come)) (take 1 (drop k gone)) ≡ exchanged old (take more gone) (come ++ x ∷ [])
 exchanged_turn old come gone k more x other is =
@@ -95,11 +93,6 @@ pub apart_left : (come gone : List Row) (z : Row) → has row_cmp (subtracted co
 apart_left come gone z e =
     let out = ((In-difference_of row_cmp row_total row_separates z come gone).0 ((has-In row_cmp row_total row_separates (subtracted come gone) z).0 e)).1 in
     false_from_ne_true (has row_cmp gone z) (λ f. out ((has-In row_cmp row_total row_separates gone z).0 f))
-
-at_in : (rows : List Row) (i : ℕ) (d : Row) → i < length rows → In (get_or rows i d) rows
-at_in [] i d l = absurd (omega arith)
-at_in (y ∷ ys) zero d l = inl refl
-at_in (y ∷ ys) (suc i) d l = inr (at_in ys i d (omega arith))
 
 -- a row at a place is one of the rows
 pub has_at : (rows : List Row) (i : ℕ) (x : Row) → i < length rows → get_or rows i x ≡ x → has row_cmp rows x ≡ true

@@ -16,7 +16,6 @@ use Rattle.point_core.specs.declared.fault.Stop.TheVariants.{Fault as Faulted, M
 use Rattle.value_core.specs.declared.constraint.Constraint.{Constraint}
 use Rattle.value_core.specs.RowPacking.{packed, unpacked}
 use Rattle.value_core.specs.Values.{Name, Heading, Row, Relation, most_rows, is_heading}
-use Rattle.value_core.specs.Refusals.{refusal_of}
 use Rattle.cell_core.specs.Costs.{bound}
 use Rattle.relation_core.specs.Answers.{Answers, under}
 use Rattle.relation_core.specs.Operators.{united}
@@ -37,7 +36,7 @@ use Rattle.eval_using.specs.Using.{around}
 use Rattle.eval_using.proofs.UnderLemmas.{set_meant}
 use Rattle.algebra_core.specs.Costs.{Prices, tree_cost, prices_in, cost_in, paid, known_of}
 use Rattle.algebra_core.proofs.CostLemmas.{known_each}
-use Rattle.assign_core.specs.Assignments.{seen_by, source_value, with_target, evaluated, of_values, after_assignments, IsRefusedFor}
+use Rattle.assign_core.specs.Assignments.{seen_by, source_value, with_target, evaluated}
 use Rattle.assign_core.specs.Breaches.{value_if}
 use Rattle.relvar_logs.specs.Changes.{Changes, changed}
 use Rattle.assign_core.specs.Costs.{source_cost, sources_cost}
@@ -215,15 +214,15 @@ module _ (es : Entries) (target : Name) (at : ℕ) (value : Relation) (constrain
       operand_told : (v : Relation) → under (heading_of operand) (meaning_in (seen_by es (changed none es) target) operand) ≡ Ok v → under (heading_of operand) (meaning_in seen operand) ≡ Ok v
       operand_told v told = ap (λ (z : Entries). under (heading_of operand) (meaning_in z operand)) (sym seen_so) ∙ told
 
-      operand_stopped : (stop : Stop) → Answers {A = Relation} (Err stop) (under (heading_of operand) (meaning_in seen operand)) → IsRefusedFor (refusal_of stop) (after_assignments es (insertion list ∷ []))
-      operand_stopped (Faulted f) told = ap (λ (r : OrFault Relation). of_values (then_give r (λ v. evaluated es (with_target es target v) []))) (insertion_failed list f told)
+      operand_stopped : (stop : Stop) → Answers {A = Relation} (Err stop) (under (heading_of operand) (meaning_in seen operand)) → Answers {A = Entries} (Err stop) (evaluated es es (insertion list ∷ []))
+      operand_stopped (Faulted f) told = ap (λ (r : OrFault Relation). then_give r (λ v. evaluated es (with_target es target v) [])) (insertion_failed list f told)
       operand_stopped OfMemory told = tt
 
       -- why its operand has no value
       pub stopped_told : (stop : Stop) → Answers {A = Relation} (Err stop) (under (heading_of operand) (meaning_in (seen_by es (changed none es) target) operand))
-          → IsRefusedFor (refusal_of stop) (after_assignments es (b ∷ []))
+          → Answers {A = Entries} (Err stop) (evaluated es es (b ∷ []))
       stopped_told stop told =
-          subst (λ (z : PlainAssignment). IsRefusedFor (refusal_of stop) (after_assignments es (z ∷ []))) (sym same)
+          subst (λ (z : PlainAssignment). Answers {A = Entries} (Err stop) (evaluated es es (z ∷ []))) (sym same)
           (operand_stopped stop (subst (λ (z : Entries). Answers {A = Relation} (Err stop) (under (heading_of operand) (meaning_in z operand))) seen_so told))
 
       pub cost_told : (old new : ℕ) → new ≤ old + cost_in (seen_by es (changed none es) target) operand → new ≤ old + sources_cost es es (b ∷ [])

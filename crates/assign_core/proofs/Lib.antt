@@ -6,7 +6,6 @@ pub mod ChangeLemmas
 pub mod CheckLemmas
 pub mod CostLemmas
 pub mod CountLemmas
-pub mod CutLemmas
 pub mod DeclaredLemmas
 pub mod DifferenceLemmas
 pub mod ExchangeLemmas
@@ -20,12 +19,15 @@ pub mod InsertionLemmas
 pub mod InTurnLemmas
 pub mod ItemLemmas
 pub mod LeaningLemmas
-pub mod LeavingLemmas
 pub mod LogLemmas
+pub mod LoggedLemmas
+pub mod InPlaceLemmas
+pub mod PreparedLemmas
 pub mod MergingLemmas
 pub mod NameLemmas
 pub mod NewRowLemmas
 pub mod PackingLemmas
+pub mod PendingLemmas
 pub mod PlaceLemmas
 pub mod PlainLemmas
 pub mod PlainRenewalLemmas
@@ -36,7 +38,6 @@ pub mod ReductionLemmas
 pub mod RenewalLemmas
 pub mod RevisionLemmas
 pub mod RoomLemmas
-pub mod RemovalLemmas
 pub mod RemovedLemmas
 pub mod RuleLemmas
 pub mod SourceLemmas

@@ -19,9 +19,9 @@ use Rattle.value_core.proofs.RelationLemmas.{sorted_from_ascending}
 use Rattle.relation_core.specs.Operators.{united}
 use Rattle.relation_core.proofs.FilterLemmas.{Ascends-drop, ended, head_of, take_all}
 use Rattle.relation_core.proofs.MergeLemmas.{merged_rest, merged_union, turn_equal, turn_greater, turn_less}
-use Rattle.assign_core.specs.Removals.{IsPlaceBehind}
-use Rattle.assign_core.proofs.CutLemmas.{in_range, range_more}
-use Rattle.assign_core.proofs.LeavingLemmas.{in_rest}
+use Rattle.row_removal.specs.Removals.{IsPlaceBehind}
+use Rattle.row_removal.proofs.CutLemmas.{in_range, range_more}
+use Rattle.row_removal.proofs.LeavingLemmas.{in_rest}
 
 -- ---- the first row of both
 

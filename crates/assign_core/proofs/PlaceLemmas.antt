@@ -13,7 +13,7 @@ use Rattle.value_core.specs.Order.{row_total, row_separates}
 use Rattle.value_core.proofs.PlacingLemmas.{put_missing}
 use Rattle.relation_core.specs.Operators.{subtracted}
 use Rattle.relation_core.proofs.FilterLemmas.{ended, take_all}
-use Rattle.assign_core.proofs.RemovalLemmas.{found_at}
+use Rattle.row_removal.proofs.RemovalLemmas.{found_at}
 
 -- ---- a part of rows that is written back
 

@@ -2,15 +2,13 @@
 --     less      a relvar without rows that it gained
 --     MayGain      the base relvar at a place may gain the rows: it, its log, and all base relvars and logs have room for them
 --     IsGain      what stands ready: those rows that it does not have yet
-use Rattle.std.specs.Prelude.{◌≡◌, ℕ, ◌+◌, ◌≤◌, length, None}
-use Rattle.value_core.specs.Limits.{most_rows_in_all}
+use Rattle.std.specs.Prelude.{◌≡◌, ℕ, [], length, None}
 use Rattle.value_core.specs.Values.{Name, Relation, IsRelation}
 use Rattle.relation_core.specs.Operators.{subtracted}
 use Rattle.tree_core.specs.Relvars.{PlainRelvar, base, view, log, State}
-use Rattle.relvar_logs.specs.Gains.{HasRoomForGain}
 use Rattle.assign_core.specs.declared.gaining.Gain.{Gain}
 use Rattle.assign_core.specs.Arrivals.{IsBaseFor}
-use Rattle.assign_core.specs.Breaches.{rows_of_all}
+use Rattle.assign_core.specs.Beside.{FitsBeside}
 use Rattle.assign_core.specs.NewRows.{joining}
 
 abbrev pub less : Relation → PlainRelvar → PlainRelvar
@@ -22,12 +20,11 @@ less come (log of side last value) = log of side last value
 pub record MayGain (s : State) (name : Name) (rows : Relation) (at : ℕ) (old : Relation) : Type 0 where
   pub base : IsBaseFor s.relvars name (joining None) rows at old
   pub own : IsRelation rows
-  pub room : ℕ
-  pub logs : HasRoomForGain name (length rows.rows) most_rows_in_all room s.relvars
-  pub few : rows_of_all s.relvars + length rows.rows ≤ room
+  pub fits : FitsBeside s name (length rows.rows)
 
 pub record IsGain (s : State) (name : Name) (rows : Relation) (g : Gain) : Type 0 where
   pub old : Relation
   pub may : MayGain s name rows g.at old
-  pub headed : g.come.heading ≡ rows.heading
-  pub new : g.come.rows ≡ subtracted rows.rows old.rows
+  pub headed : g.rows.come.heading ≡ rows.heading
+  pub new : g.rows.come.rows ≡ subtracted rows.rows old.rows
+  pub gone : g.rows.gone ≡ record { heading = old.heading; rows = [] }

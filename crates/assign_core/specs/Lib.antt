@@ -10,6 +10,7 @@ pub mod Differences
 pub mod Exchanges
 pub mod Gained
 pub mod Hashed
+pub mod InPlace
 pub mod Turnovers
 pub mod Insertions
 pub mod Items
@@ -17,10 +18,10 @@ pub mod Leanings
 pub mod Logs
 pub mod NewRows
 pub mod Parts
+pub mod Pendings
 pub mod PlainChanges
 pub mod Portions
 pub mod Reductions
-pub mod Removals
 pub mod Renewals
 pub mod Revisions
 pub mod Targets

@@ -28,15 +28,15 @@ use value_core::{MOST_ROWS_IN_ALL, Positions, Refuse, Relation};
 /// A base relvar with hashes of its rows, and the rows of an operand that are added to these: point by point for the attributes of a
 /// list, if there is one.
 #[derive(Clone, Copy)]
-pub(crate) struct Addition<'a> {
+pub(crate) struct Addition<'a, 'b> {
     pub target: Target<'a>,
     pub commalist: Option<&'a Positions>,
     pub hashes: &'a [Hashes],
-    pub operand: &'a Relation,
+    pub operand: &'b Relation,
 }
 
 /// What is known of the target's rows: their hashes, and that those after the addition are packed on its list.
-pub(crate) fn known_of(addition: Addition<'_>) -> Known<'_>
+pub(crate) fn known_of<'a>(addition: Addition<'a, '_>) -> Known<'a>
     ensures { result ≡ record { hashes = addition.entry.hashes; packed = addition.entry.commalist } }
 {
     Known {
@@ -46,7 +46,7 @@ pub(crate) fn known_of(addition: Addition<'_>) -> Known<'_>
 }
 
 /// Whether the rows of both stay as they are: there is no list, or no row of the one has to do with the points of another.
-pub(crate) fn is_plain(alloc: Global, addition: Addition<'_>) -> Result<bool, Memory>
+pub(crate) fn is_plain(alloc: Global, addition: Addition<'_, '_>) -> Result<bool, Memory>
     requires { IsAddition addition }
     ensures { IfOk result (λ b. b ≡ true → IsPlain addition.entry) }
 {
@@ -62,7 +62,7 @@ pub(crate) fn is_plain(alloc: Global, addition: Addition<'_>) -> Result<bool, Me
 }
 
 /// The operand's rows that the target does not have, and none that go.
-pub(crate) fn new_rows(alloc: Global, addition: Addition<'_>) -> Result<Exchange, Memory>
+pub(crate) fn new_rows(alloc: Global, addition: Addition<'_, '_>) -> Result<Exchange, Memory>
     requires addition { IsAddition addition }
     requires plain { IsPlain addition }
     ensures exchange { IfOk result (IsExchange addition.entry.target.value.now) }
@@ -91,8 +91,8 @@ pub(crate) fn coming(alloc: Global, value: &Relation, come: Relation) -> Result<
     Ok(Exchange { come, gone })
 }
 
-// No rows, under the heading of a relation.
-fn no_rows(alloc: Global, value: &Relation) -> Result<Relation, Memory>
+/// No rows, under the heading of a relation.
+pub(crate) fn no_rows(alloc: Global, value: &Relation) -> Result<Relation, Memory>
     ensures { IfOk result (λ r. r ≡ record { heading = value.now.heading; rows = [] }) }
 {
     let heading = value.heading().copy(alloc)?;
@@ -138,7 +138,7 @@ pub(crate) fn admit_rows<'a, L: Ledger>(
 /// The rows of both, united under the list; or the fault of too many rows.
 pub(crate) fn unite<L: Ledger>(
     alloc: Global,
-    addition: Addition<'_>,
+    addition: Addition<'_, '_>,
     steps: &mut Steps<L>,
 ) -> Result<Relation, Stop>
     requires { IsAddition addition }

@@ -1,5 +1,5 @@
 // Assignments, which are counted where they are done.
-ghost use Rattle.std.specs.Prelude.{◌≡◌, ◌≤◌, ◌<ℤ◌, ◌+◌, ◌+ℤ◌, pos, false, is_ok, map, IfOk, IfErr, Ok};
+ghost use Rattle.std.specs.Prelude.{◌≡◌, ◌≤◌, ◌<ℤ◌, ◌+◌, ◌+ℤ◌, pos, false, is_ok, map, Ok};
 ghost use Rattle.std.specs.List.{All};
 ghost use Rattle.point_core.specs.Whole.{greatest_whole};
 ghost use Rattle.tree_core.specs.Items.{read_assignment};
@@ -7,27 +7,23 @@ ghost use Rattle.tree_core.specs.Relvars.{read_relvars, State};
 ghost use Rattle.meaning_core.specs.Declarations.{counted};
 ghost use Rattle.meaning_core.specs.Logs.{has_log, AreInStep};
 ghost use Rattle.meaning_core.specs.Updates.{IsTypedAssignment};
-ghost use Rattle.relvar_logs.specs.Turning.{AreNext};
 ghost use Rattle.assign_core.specs.Arrivals.{way_of};
-ghost use Rattle.assign_core.specs.Assignments.{after_assignments, evaluated, IsAssigned, IsRefusedFor};
-ghost use Rattle.assign_core.specs.Costs.{assignments_cost, cost_of_assignments};
+ghost use Rattle.assign_core.specs.Assignments.{IsAssigned};
+ghost use Rattle.assign_core.specs.Costs.{cost_of_assignments};
 ghost use Rattle.assign_core.specs.Databases.{IsKept};
-ghost use Rattle.assign_core.specs.Exchanges.{with_ready, IsReady};
 ghost use Rattle.assign_core.specs.Hashed.{AreHashed};
 ghost use Rattle.assign_core.specs.Beside.{IsBeside};
-ghost use Rattle.assign_core.specs.Logs.{counted_if, is_brought, unless_full, IsRoomFor};
+ghost use Rattle.assign_core.specs.Logs.{counted_if, is_brought};
 ghost use Rattle.assign_core.specs.NewRows.{HasRoomIf, IsFoundIf, IsListFor, IsPaidFor, IsToldOf, StaysUnless, TakesNoneIf};
 
 use crate::beside::leaves_logs;
-use crate::exchange::Ready;
 use crate::filling::fill;
 use crate::gaining::bring_logged;
 use crate::hashed::Hashed;
-use crate::logs::ready_logs;
+use crate::in_place::{perform_prepared, prepare_beside};
 use crate::new_rows::{Coming, bring};
-use crate::preparing::{admit_values, new_values, prepare};
+use crate::preparing::prepare;
 use crate::settling::settle;
-use log_times::Log;
 use point_core::Steps;
 use relvar_logs::{count, has_log};
 use std::alloc::Global;
@@ -116,7 +112,7 @@ fn assign_beside<L: Ledger>(
     Ok(())
 }
 
-// Where there are logs. Those whose relvars change stand ready before anything does.
+// Where there are logs. They change with their relvars: in place, or by what stands ready before anything changes.
 fn assign_logged<L: Ledger>(
     alloc: Global,
     relvars: &mut Relvars,
@@ -135,35 +131,9 @@ fn assign_logged<L: Ledger>(
     ensures hashed { AreHashed hashed.new (read_relvars relvars.new).relvars }
     ensures cost { steps.new ≤ steps.old + cost_of_assignments (read_relvars relvars.old) (map read_assignment list.now) }
 {
-    let (ready, mut next) = prepare_logged(alloc, list, relvars, steps)?;
-    settle(alloc, relvars, hashed, ready, steps)?;
-    count(relvars, &mut next);
-    Ok(())
-}
-
-// What stands ready for all targets, whose values are made whole, and for the logs.
-fn prepare_logged<L: Ledger>(
-    alloc: Global,
-    list: &[Assignment],
-    relvars: &Relvars,
-    steps: &mut Steps<L>,
-) -> Result<(Ready, Vec<Option<Log>>), Refuse>
-    requires kept { IsKept (read_relvars relvars.now) }
-    requires step { AreInStep (read_relvars relvars.now).accepted (read_relvars relvars.now).relvars }
-    requires room { ((read_relvars relvars.now).accepted +ℤ pos 1) <ℤ greatest_whole }
-    requires typed { All (λ a. IsTypedAssignment (read_relvars relvars.now) (read_assignment a)) list.now }
-    ensures ready { IfOk result (λ p. IsReady p.0 (read_relvars relvars.now).relvars) }
-    ensures next { IfOk result (λ p. AreNext (read_relvars relvars.now).accepted (with_ready p.0 (read_relvars relvars.now).relvars) p.1.items (with_ready p.0 (read_relvars relvars.now).relvars)) }
-    ensures meant { IfOk result (λ p. after_assignments (read_relvars relvars.now).relvars (map read_assignment list.now) ≡ Ok (with_ready p.0 (read_relvars relvars.now).relvars)) }
-    ensures full { IfOk result (λ p. IsRoomFor (evaluated (read_relvars relvars.now).relvars (read_relvars relvars.now).relvars (map read_assignment list.now))) }
-    ensures refused { IfErr result (λ refuse. IsRefusedFor refuse
-        (unless_full (evaluated (read_relvars relvars.now).relvars (read_relvars relvars.now).relvars (map read_assignment list.now)) (after_assignments (read_relvars relvars.now).relvars (map read_assignment list.now)))) }
-    ensures cost { steps.new ≤ steps.old + assignments_cost (read_relvars relvars.now).relvars (map read_assignment list.now) }
-{
-    let changes = new_values(alloc, list, relvars, steps)?;
-    let next = ready_logs(alloc, relvars, changes.as_slice())?;
-    let ready = admit_values(alloc, relvars, changes, steps)?;
-    Ok((ready, next))
+    fill(alloc, list, relvars, hashed)?;
+    let prepared = prepare_beside(alloc, list, relvars, hashed, steps)?;
+    perform_prepared(alloc, relvars, hashed, prepared, steps)
 }
 
 /// Brings rows to a base relvar, and counts the statement. Where there are logs they are left, unless they are simply added and there is

@@ -1,14 +1,16 @@
 // Assignments beside logs that they leave.
-ghost use Rattle.std.specs.Prelude.{◌≡◌, ◌<ℤ◌, ◌+ℤ◌, pos, true, map};
+ghost use Rattle.std.specs.Prelude.{◌≡◌, ◌≤◌, ◌<ℤ◌, ◌+ℤ◌, pos, true, map};
 ghost use Rattle.point_core.specs.Whole.{greatest_whole};
 ghost use Rattle.tree_core.specs.Items.{read_assignment};
 ghost use Rattle.tree_core.specs.Relvars.{read_relvars};
 ghost use Rattle.meaning_core.specs.Logs.{AreInStep};
 ghost use Rattle.assign_core.specs.Databases.{IsKept};
-ghost use Rattle.assign_core.specs.Beside.{has_log_of, is_one_logged, IsBeside};
+ghost use Rattle.value_core.specs.Limits.{most_rows_in_all};
+ghost use Rattle.assign_core.specs.Breaches.{rows_of_all};
+ghost use Rattle.assign_core.specs.Beside.{has_log_of, is_one_logged, FitsBeside, IsBeside};
 
 use crate::counting::rows_of_bases;
-use relvar_logs::room_beside;
+use relvar_logs::{room_beside, room_for_change};
 use tree_core::{Assignment, Relvar, Relvars};
 use value_core::{MOST_ROWS, MOST_ROWS_IN_ALL, Name};
 
@@ -27,6 +29,18 @@ pub(crate) fn leaves_logs(relvars: &Relvars, list: &[Assignment]) -> bool
     }
     match room_beside(relvars, &[], MOST_ROWS_IN_ALL) {
         Some(room) => rows_of_bases(relvars) + list.len() * MOST_ROWS <= room,
+        None => false,
+    }
+}
+
+/// Whether so many rows more fit in any case: in the relvar of the name, in its log, and beside all others. They do not where it has
+/// several logs.
+pub(crate) fn fits_beside(relvars: &Relvars, name: &Name, more: usize) -> bool
+    requires { rows_of_all (read_relvars relvars.now).relvars ≤ most_rows_in_all }
+    ensures { result ≡ true → FitsBeside (read_relvars relvars.now) name.now more }
+{
+    match room_for_change(relvars, name, more, MOST_ROWS_IN_ALL) {
+        Some(room) => rows_of_bases(relvars) + more <= room,
         None => false,
     }
 }

@@ -1,79 +1,76 @@
-// What stands ready for changes by a condition: where this affects few rows, only these are looked at.
-ghost use Rattle.std.specs.Prelude.{◌≡◌, ◌≤◌, ◌+◌, [], ◌∷◌, map, None, Ok, IfOk, IfErr};
+// What changes by a condition give their targets: where this affects few rows, only these are looked at.
+ghost use Rattle.std.specs.Prelude.{◌≡◌, ◌≤◌, ◌+◌, [], ◌∷◌, map, Err, None, IfOk, IfErr};
 ghost use Rattle.std.specs.List.{All};
+ghost use Rattle.relation_core.specs.Answers.{Answers};
 ghost use Rattle.relation_core.specs.Hashes.{AreHashesOf};
 ghost use Rattle.tree_core.specs.Items.{read_assignment};
-ghost use Rattle.tree_core.specs.Relvars.{read_relvars};
+ghost use Rattle.tree_core.specs.Relvars.{read_relvars, Entries};
 ghost use Rattle.meaning_core.specs.Updates.{IsTypedAssignment};
-ghost use Rattle.assign_core.specs.Assignments.{after_assignments, IsRefusedFor};
-ghost use Rattle.assign_core.specs.Costs.{assignments_cost};
+ghost use Rattle.assign_core.specs.Assignments.{evaluated};
+ghost use Rattle.assign_core.specs.Costs.{sources_cost};
 ghost use Rattle.assign_core.specs.Databases.{IsKept};
 ghost use Rattle.assign_core.specs.Hashed.{AreHashed};
+ghost use Rattle.assign_core.specs.Pendings.{IsPending};
 ghost use Rattle.assign_core.specs.PlainChanges.{IsAnyDeletion, IsAnyRevision};
 ghost use Rattle.assign_core.specs.Reductions.{entries_reduced, IsReduction};
 ghost use Rattle.assign_core.specs.Renewals.{entries_renewed, IsRenewal};
-ghost use Rattle.assign_core.specs.Exchanges.{with_ready, IsReady};
 
-use crate::changes::none_yet;
-use crate::exchange::Ready;
+use crate::evaluating::evaluate_all;
 use crate::finding::{find_deletion, find_revision, no_positions};
 use crate::hashed::{Hashed, hashes_at};
+use crate::pending::Pending;
 use crate::portion::Deletion;
-use crate::preparing::{prepare_all, prepare_exchange};
 use crate::reduction::{Reduction, deleted, deleted_part, deletion_at};
 use crate::renewal::{Renewal, revised, revised_part, revision_at};
 use crate::revision::Revision;
 use crate::target::Target;
 use crate::turnover::Known;
-use point_core::Steps;
+use point_core::{Steps, Stop};
 use relation_core::Hashes;
 use std::alloc::Global;
 use std::sync::ledger::Ledger;
 use tree_core::{Assignment, Relvars};
-use value_core::Refuse;
 
-/// What stands ready for all targets, or why the assignments are refused. A deletion by a condition looks at the rows that this affects,
-/// where they are few.
-pub(crate) fn prepare_change<L: Ledger>(
+/// What the sources give all targets, or the first fault. A deletion by a condition looks at the rows that this affects, where they are
+/// few.
+pub(crate) fn evaluate_change<'a, L: Ledger>(
     alloc: Global,
-    list: &[Assignment],
-    relvars: &Relvars,
-    hashed: &Hashed,
+    list: &'a [Assignment],
+    relvars: &'a Relvars,
+    hashed: &'a Hashed,
     steps: &mut Steps<L>,
-) -> Result<Ready, Refuse>
+) -> Result<Pending<'a>, Stop>
     requires kept { IsKept (read_relvars relvars.now) }
     requires hashed { AreHashed hashed.now (read_relvars relvars.now).relvars }
     requires typed { All (λ a. IsTypedAssignment (read_relvars relvars.now) (read_assignment a)) list.now }
-    ensures ready { IfOk result (λ r. IsReady r (read_relvars relvars.now).relvars) }
-    ensures meant { IfOk result (λ r. after_assignments (read_relvars relvars.now).relvars (map read_assignment list.now) ≡ Ok (with_ready r (read_relvars relvars.now).relvars)) }
-    ensures refused { IfErr result (λ refuse. IsRefusedFor refuse (after_assignments (read_relvars relvars.now).relvars (map read_assignment list.now))) }
-    ensures cost { steps.new ≤ steps.old + assignments_cost (read_relvars relvars.now).relvars (map read_assignment list.now) }
+    ensures pending { IfOk result (IsPending relvars.now (evaluated (read_relvars relvars.now).relvars (read_relvars relvars.now).relvars (map read_assignment list.now))) }
+    ensures refused { IfErr result (λ stop. Answers {A = Entries} (Err stop) (evaluated (read_relvars relvars.now).relvars (read_relvars relvars.now).relvars (map read_assignment list.now))) }
+    ensures cost { steps.new ≤ steps.old + sources_cost (read_relvars relvars.now).relvars (read_relvars relvars.now).relvars (map read_assignment list.now) }
 {
     let none = no_positions(alloc);
     match find_deletion(list, &none) {
-        Some(deletion) => prepare_deletion(alloc, deletion, list, relvars, hashed, steps),
-        None => prepare_update(alloc, list, relvars, hashed, steps),
+        Some(deletion) => evaluate_deletion(alloc, deletion, list, relvars, hashed, steps),
+        None => evaluate_update(alloc, list, relvars, hashed, steps),
     }
 }
 
-// What stands ready for the target of a deletion, or why it is refused.
-fn prepare_deletion<L: Ledger>(
+// What a deletion gives its target, or the fault that comes in its place.
+fn evaluate_deletion<'a, L: Ledger>(
     alloc: Global,
-    deletion: Deletion<'_>,
+    deletion: Deletion<'a, '_>,
     list: &[Assignment],
-    relvars: &Relvars,
-    hashed: &Hashed,
+    relvars: &'a Relvars,
+    hashed: &'a Hashed,
     steps: &mut Steps<L>,
-) -> Result<Ready, Refuse>
+) -> Result<Pending<'a>, Stop>
     requires kept { IsKept (read_relvars relvars.now) }
     requires hashed { AreHashed hashed.now (read_relvars relvars.now).relvars }
     requires deletion { IsAnyDeletion deletion }
     requires alone { map read_assignment list.now ≡ read_assignment deletion.assignment.now ∷ [] }
     requires typed { All (λ a. IsTypedAssignment (read_relvars relvars.now) (read_assignment a)) list.now }
-    ensures ready { IfOk result (λ r. IsReady r (read_relvars relvars.now).relvars) }
-    ensures meant { IfOk result (λ r. after_assignments (read_relvars relvars.now).relvars (map read_assignment list.now) ≡ Ok (with_ready r (read_relvars relvars.now).relvars)) }
-    ensures refused { IfErr result (λ refuse. IsRefusedFor refuse (after_assignments (read_relvars relvars.now).relvars (map read_assignment list.now))) }
-    ensures cost { steps.new ≤ steps.old + assignments_cost (read_relvars relvars.now).relvars (map read_assignment list.now) }
+    ensures pending { IfOk result (IsPending relvars.now (evaluated (read_relvars relvars.now).relvars (read_relvars relvars.now).relvars (map read_assignment list.now))) }
+    ensures refused { IfErr result (λ stop. Answers {A = Entries} (Err stop) (evaluated (read_relvars relvars.now).relvars (read_relvars relvars.now).relvars (map read_assignment list.now))) }
+    ensures cost { steps.new ≤ steps.old + sources_cost (read_relvars relvars.now).relvars (read_relvars relvars.now).relvars (map read_assignment list.now) }
 {
     let (at, value) = deletion_at(relvars, deletion);
     let hashes = hashes_at(hashed, at);
@@ -86,28 +83,25 @@ fn prepare_deletion<L: Ledger>(
                 value,
                 part: &part,
             };
-            prepare_reduction(alloc, reduction, hashes, steps)
+            pending_reduction(alloc, reduction, hashes, steps)
         }
-        None => prepare_all(alloc, list, relvars, steps),
+        None => evaluate_all(alloc, list, relvars, steps),
     }
 }
 
-// What stands ready for the target of a deletion that affects few rows, or why it is refused.
-fn prepare_reduction<L: Ledger>(
+// What a deletion that affects few rows gives its target, or the fault that comes in its place.
+fn pending_reduction<'a, L: Ledger>(
     alloc: Global,
-    reduction: Reduction<'_>,
-    hashes: &[Hashes],
+    reduction: Reduction<'a, '_>,
+    hashes: &'a [Hashes],
     steps: &mut Steps<L>,
-) -> Result<Ready, Refuse>
-    requires kept { IsKept (read_relvars reduction.relvars.now) }
+) -> Result<Pending<'a>, Stop>
     requires reduction { IsReduction reduction }
     requires hashed { All (AreHashesOf reduction.value.now.rows) hashes.now }
-    ensures ready { IfOk result (λ r. IsReady r (entries_reduced reduction.entry)) }
-    ensures meant { IfOk result (λ r. after_assignments (entries_reduced reduction.entry) (read_assignment reduction.entry.deletion.assignment.now ∷ []) ≡ Ok (with_ready r (entries_reduced reduction.entry))) }
-    ensures refused { IfErr result (λ refuse. IsRefusedFor refuse (after_assignments (entries_reduced reduction.entry) (read_assignment reduction.entry.deletion.assignment.now ∷ []))) }
-    ensures cost { steps.new ≤ steps.old + assignments_cost (entries_reduced reduction.entry) (read_assignment reduction.entry.deletion.assignment.now ∷ []) }
+    ensures pending { IfOk result (IsPending reduction.entry.relvars.now (evaluated (entries_reduced reduction.entry) (entries_reduced reduction.entry) (read_assignment reduction.entry.deletion.assignment.now ∷ []))) }
+    ensures refused { IfErr result (λ stop. Answers {A = Entries} (Err stop) (evaluated (entries_reduced reduction.entry) (entries_reduced reduction.entry) (read_assignment reduction.entry.deletion.assignment.now ∷ []))) }
+    ensures cost { steps.new ≤ steps.old + sources_cost (entries_reduced reduction.entry) (entries_reduced reduction.entry) (read_assignment reduction.entry.deletion.assignment.now ∷ []) }
 {
-    let none = none_yet(alloc, reduction.relvars)?;
     let rows = deleted(alloc, reduction, steps)?;
     let target = Target {
         relvars: reduction.relvars,
@@ -117,51 +111,48 @@ fn prepare_reduction<L: Ledger>(
         value: reduction.value,
     };
     let known = hashed_alone(hashes);
-    prepare_exchange(alloc, target, rows, known, none.as_slice(), steps)
+    Ok(Pending::Rows(target, rows, known))
 }
 
-// What stands ready for all targets, or why the assignments are refused. A revision by conditions looks at the rows that these affect,
-// where they are few.
-fn prepare_update<L: Ledger>(
+// What the sources give all targets, or the first fault. A revision by conditions looks at the rows that these affect, where they are few.
+fn evaluate_update<'a, L: Ledger>(
     alloc: Global,
-    list: &[Assignment],
-    relvars: &Relvars,
-    hashed: &Hashed,
+    list: &'a [Assignment],
+    relvars: &'a Relvars,
+    hashed: &'a Hashed,
     steps: &mut Steps<L>,
-) -> Result<Ready, Refuse>
+) -> Result<Pending<'a>, Stop>
     requires kept { IsKept (read_relvars relvars.now) }
     requires hashed { AreHashed hashed.now (read_relvars relvars.now).relvars }
     requires typed { All (λ a. IsTypedAssignment (read_relvars relvars.now) (read_assignment a)) list.now }
-    ensures ready { IfOk result (λ r. IsReady r (read_relvars relvars.now).relvars) }
-    ensures meant { IfOk result (λ r. after_assignments (read_relvars relvars.now).relvars (map read_assignment list.now) ≡ Ok (with_ready r (read_relvars relvars.now).relvars)) }
-    ensures refused { IfErr result (λ refuse. IsRefusedFor refuse (after_assignments (read_relvars relvars.now).relvars (map read_assignment list.now))) }
-    ensures cost { steps.new ≤ steps.old + assignments_cost (read_relvars relvars.now).relvars (map read_assignment list.now) }
+    ensures pending { IfOk result (IsPending relvars.now (evaluated (read_relvars relvars.now).relvars (read_relvars relvars.now).relvars (map read_assignment list.now))) }
+    ensures refused { IfErr result (λ stop. Answers {A = Entries} (Err stop) (evaluated (read_relvars relvars.now).relvars (read_relvars relvars.now).relvars (map read_assignment list.now))) }
+    ensures cost { steps.new ≤ steps.old + sources_cost (read_relvars relvars.now).relvars (read_relvars relvars.now).relvars (map read_assignment list.now) }
 {
     let none = no_positions(alloc);
     match find_revision(list, &none) {
-        Some(revision) => prepare_revision(alloc, revision, list, relvars, hashed, steps),
-        None => prepare_all(alloc, list, relvars, steps),
+        Some(revision) => evaluate_revision(alloc, revision, list, relvars, hashed, steps),
+        None => evaluate_all(alloc, list, relvars, steps),
     }
 }
 
-// What stands ready for the target of a revision, or why it is refused.
-fn prepare_revision<L: Ledger>(
+// What a revision gives its target, or the fault that comes in its place.
+fn evaluate_revision<'a, L: Ledger>(
     alloc: Global,
-    revision: Revision<'_>,
+    revision: Revision<'a, '_>,
     list: &[Assignment],
-    relvars: &Relvars,
-    hashed: &Hashed,
+    relvars: &'a Relvars,
+    hashed: &'a Hashed,
     steps: &mut Steps<L>,
-) -> Result<Ready, Refuse>
+) -> Result<Pending<'a>, Stop>
     requires kept { IsKept (read_relvars relvars.now) }
     requires hashed { AreHashed hashed.now (read_relvars relvars.now).relvars }
     requires revision { IsAnyRevision revision }
     requires alone { map read_assignment list.now ≡ read_assignment revision.assignment.now ∷ [] }
     requires typed { All (λ a. IsTypedAssignment (read_relvars relvars.now) (read_assignment a)) list.now }
-    ensures ready { IfOk result (λ r. IsReady r (read_relvars relvars.now).relvars) }
-    ensures meant { IfOk result (λ r. after_assignments (read_relvars relvars.now).relvars (map read_assignment list.now) ≡ Ok (with_ready r (read_relvars relvars.now).relvars)) }
-    ensures refused { IfErr result (λ refuse. IsRefusedFor refuse (after_assignments (read_relvars relvars.now).relvars (map read_assignment list.now))) }
-    ensures cost { steps.new ≤ steps.old + assignments_cost (read_relvars relvars.now).relvars (map read_assignment list.now) }
+    ensures pending { IfOk result (IsPending relvars.now (evaluated (read_relvars relvars.now).relvars (read_relvars relvars.now).relvars (map read_assignment list.now))) }
+    ensures refused { IfErr result (λ stop. Answers {A = Entries} (Err stop) (evaluated (read_relvars relvars.now).relvars (read_relvars relvars.now).relvars (map read_assignment list.now))) }
+    ensures cost { steps.new ≤ steps.old + sources_cost (read_relvars relvars.now).relvars (read_relvars relvars.now).relvars (map read_assignment list.now) }
 {
     let (at, value) = revision_at(relvars, revision);
     let hashes = hashes_at(hashed, at);
@@ -175,26 +166,23 @@ fn prepare_revision<L: Ledger>(
                 hashes,
                 part: &part,
             };
-            prepare_renewal(alloc, renewal, steps)
+            pending_renewal(alloc, renewal, steps)
         }
-        None => prepare_all(alloc, list, relvars, steps),
+        None => evaluate_all(alloc, list, relvars, steps),
     }
 }
 
-// What stands ready for the target of a revision that affects few rows, or why it is refused.
-fn prepare_renewal<L: Ledger>(
+// What a revision that affects few rows gives its target, or the fault that comes in its place.
+fn pending_renewal<'a, L: Ledger>(
     alloc: Global,
-    renewal: Renewal<'_>,
+    renewal: Renewal<'a, '_>,
     steps: &mut Steps<L>,
-) -> Result<Ready, Refuse>
-    requires kept { IsKept (read_relvars renewal.relvars.now) }
-    requires renewal { IsRenewal renewal }
-    ensures ready { IfOk result (λ r. IsReady r (entries_renewed renewal.entry)) }
-    ensures meant { IfOk result (λ r. after_assignments (entries_renewed renewal.entry) (read_assignment renewal.entry.revision.assignment.now ∷ []) ≡ Ok (with_ready r (entries_renewed renewal.entry))) }
-    ensures refused { IfErr result (λ refuse. IsRefusedFor refuse (after_assignments (entries_renewed renewal.entry) (read_assignment renewal.entry.revision.assignment.now ∷ []))) }
-    ensures cost { steps.new ≤ steps.old + assignments_cost (entries_renewed renewal.entry) (read_assignment renewal.entry.revision.assignment.now ∷ []) }
+) -> Result<Pending<'a>, Stop>
+    requires { IsRenewal renewal }
+    ensures pending { IfOk result (IsPending renewal.entry.relvars.now (evaluated (entries_renewed renewal.entry) (entries_renewed renewal.entry) (read_assignment renewal.entry.revision.assignment.now ∷ []))) }
+    ensures refused { IfErr result (λ stop. Answers {A = Entries} (Err stop) (evaluated (entries_renewed renewal.entry) (entries_renewed renewal.entry) (read_assignment renewal.entry.revision.assignment.now ∷ []))) }
+    ensures cost { steps.new ≤ steps.old + sources_cost (entries_renewed renewal.entry) (entries_renewed renewal.entry) (read_assignment renewal.entry.revision.assignment.now ∷ []) }
 {
-    let none = none_yet(alloc, renewal.relvars)?;
     let rows = revised(alloc, renewal, steps)?;
     let target = Target {
         relvars: renewal.relvars,
@@ -204,7 +192,7 @@ fn prepare_renewal<L: Ledger>(
         value: renewal.value,
     };
     let known = hashed_alone(renewal.hashes);
-    prepare_exchange(alloc, target, rows, known, none.as_slice(), steps)
+    Ok(Pending::Rows(target, rows, known))
 }
 
 /// The hashes of rows, where nothing is known of those that come after them.

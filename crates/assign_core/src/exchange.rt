@@ -208,8 +208,8 @@ fn exchange_value(relvar: &mut Relvar, other: &mut Relation)
     }
 }
 
-// Takes the rows out of the base relvar at a place, with their hashes, and makes room for those that come. For want of memory they stay.
-fn hold_at(
+/// Takes the rows out of the base relvar at a place, with their hashes, and makes room for those that come. For want of memory they stay.
+pub(crate) fn hold_at(
     relvars: &mut Relvars,
     hashed: &mut Hashed,
     alloc: Global,
@@ -257,9 +257,9 @@ fn hold_of(
     }
 }
 
-// Puts the rows that come among those of the base relvar at a place that are held, and takes those that go out of them. Where they are few
-// the relvar has hashes from now on; where they are many its hashes are dropped.
-fn let_in_at(
+/// Puts the rows that come among those of the base relvar at a place that are held, and takes those that go out of them. Where they are few
+/// the relvar has hashes from now on; where they are many its hashes are dropped.
+pub(crate) fn let_in_at(
     relvars: &mut Relvars,
     hashed: &mut Hashed,
     alloc: Global,
@@ -308,8 +308,8 @@ fn let_in_of(
     }
 }
 
-// Puts the rows of the base relvar at a place that are held back into it.
-fn put_back_at(
+/// Puts the rows of the base relvar at a place that are held back into it.
+pub(crate) fn put_back_at(
     relvars: &mut Relvars,
     hashed: &mut Hashed,
     alloc: Global,

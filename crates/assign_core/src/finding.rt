@@ -20,7 +20,10 @@ pub(crate) fn no_positions(alloc: Global) -> Positions
 }
 
 /// The deletion that the list consists of, where it is one. Where it is not under USING, its list is that of no attribute.
-pub(crate) fn find_deletion<'a>(list: &'a [Assignment], none: &'a Positions) -> Option<Deletion<'a>>
+pub(crate) fn find_deletion<'a: 'b, 'b>(
+    list: &'a [Assignment],
+    none: &'b Positions,
+) -> Option<Deletion<'a, 'b>>
     requires { none.now ≡ [] }
     ensures alone { IfSome result (λ d. map read_assignment list.now ≡ read_assignment d.assignment.now ∷ []) }
     ensures is { IfSome result IsAnyDeletion }
@@ -32,7 +35,10 @@ pub(crate) fn find_deletion<'a>(list: &'a [Assignment], none: &'a Positions) -> 
 }
 
 // The assignment as a deletion, where it is one.
-fn any_deletion<'a>(assignment: &'a Assignment, none: &'a Positions) -> Option<Deletion<'a>>
+fn any_deletion<'a: 'b, 'b>(
+    assignment: &'a Assignment,
+    none: &'b Positions,
+) -> Option<Deletion<'a, 'b>>
     requires { none.now ≡ [] }
     ensures same { IfSome result (λ d. d.assignment.now ≡ assignment.now) }
     ensures is { IfSome result IsAnyDeletion }
@@ -44,7 +50,10 @@ fn any_deletion<'a>(assignment: &'a Assignment, none: &'a Positions) -> Option<D
 }
 
 /// The revision that the list consists of, where it is one. Where it is not under USING, its list is that of no attribute.
-pub(crate) fn find_revision<'a>(list: &'a [Assignment], none: &'a Positions) -> Option<Revision<'a>>
+pub(crate) fn find_revision<'a: 'b, 'b>(
+    list: &'a [Assignment],
+    none: &'b Positions,
+) -> Option<Revision<'a, 'b>>
     requires { none.now ≡ [] }
     ensures alone { IfSome result (λ r. map read_assignment list.now ≡ read_assignment r.assignment.now ∷ []) }
     ensures is { IfSome result IsAnyRevision }
@@ -56,7 +65,10 @@ pub(crate) fn find_revision<'a>(list: &'a [Assignment], none: &'a Positions) -> 
 }
 
 // The assignment as a revision, where it is one.
-fn any_revision<'a>(assignment: &'a Assignment, none: &'a Positions) -> Option<Revision<'a>>
+fn any_revision<'a: 'b, 'b>(
+    assignment: &'a Assignment,
+    none: &'b Positions,
+) -> Option<Revision<'a, 'b>>
     requires { none.now ≡ [] }
     ensures same { IfSome result (λ r. r.assignment.now ≡ assignment.now) }
     ensures is { IfSome result IsAnyRevision }

@@ -12,23 +12,25 @@ ghost use Rattle.assign_core.specs.Hashed.{AreHashed};
 ghost use Rattle.assign_core.specs.Logs.{counted_if, is_brought};
 ghost use Rattle.assign_core.specs.NewRows.{joining, HasRoomIf, IsFoundIf, IsPaidFor, IsToldOf, StaysUnless, TakesNoneIf};
 
-use crate::counting::rows_of_bases;
+use crate::addition::no_rows;
+use crate::beside::fits_beside;
 use crate::hashed::{Hashed, no_hashes};
 use crate::new_rows::{Coming, base_for, bring};
-use crate::removal::remove;
+use change_rows::Exchange;
 use point_core::Steps;
 use relation_core::absent;
-use relvar_logs::{count_gain, room_for_gain};
+use relvar_logs::count_change;
+use row_removal::remove;
 use std::alloc::Global;
 use std::sync::ledger::Ledger;
 use tree_core::{Relvar, Relvars};
-use value_core::{MOST_ROWS_IN_ALL, Name, Refuse, Relation};
+use value_core::{Name, Refuse, Relation};
 
-/// Rows that the base relvar at a place gains: those that it does not have yet.
+/// Rows that the base relvar at a place gains: those that it does not have yet. None go.
 #[derive(Drop)]
 pub(crate) struct Gain {
     pub at: usize,
-    pub come: Relation,
+    pub rows: Exchange,
 }
 
 /// Adds rows to a base relvar where there are logs, and counts the statement. They are left where the relvar has several logs, and where
@@ -60,7 +62,11 @@ pub(crate) fn bring_logged<L: Ledger>(
         return Ok(false);
     };
     let come = absent(alloc, &rows, value)?;
-    let gain = Gain { at, come };
+    let gone = no_rows(alloc, value)?;
+    let gain = Gain {
+        at,
+        rows: Exchange { come, gone },
+    };
     bring_gained(alloc, relvars, hashed, target, &gain, rows, steps)
 }
 
@@ -75,8 +81,7 @@ fn place_to_gain<'a>(
 {
     let more = rows.rows().len();
     let found = base_for(relvars, target, Coming::Insert(None), rows)?;
-    let room = room_for_gain(relvars, target, more, MOST_ROWS_IN_ALL)?;
-    if rows_of_bases(relvars) + more > room {
+    if !fits_beside(relvars, target, more) {
         return None;
     }
     Some(found)
@@ -116,7 +121,7 @@ fn bring_gained<L: Ledger>(
         rows,
         steps,
     ) {
-        Ok(true) => match count_gain(alloc, relvars, target, &gain.come) {
+        Ok(true) => match count_change(alloc, relvars, target, &gain.rows.come, &gain.rows.gone) {
             Ok(()) => Ok(true),
             Err(_) => {
                 *hashed = no_hashes(alloc);
@@ -132,13 +137,13 @@ fn bring_gained<L: Ledger>(
 // Takes the rows that a base relvar gained out of it again. It takes no memory.
 fn take_back(alloc: Global, relvars: &mut Relvars, gain: &Gain)
     requires at { gain.now.at < length relvars.old.list.entries }
-    ensures list { map read_entry relvars.new.list.entries ≡ turned_at gain.now.at (less gain.now.come) (map read_entry relvars.old.list.entries) }
+    ensures list { map read_entry relvars.new.list.entries ≡ turned_at gain.now.at (less gain.now.rows.come) (map read_entry relvars.old.list.entries) }
     ensures ordinals { relvars.new.ordinals ≡ relvars.old.ordinals }
     ensures rules { relvars.new.rules ≡ relvars.old.rules }
     ensures accepted { relvars.new.accepted ≡ relvars.old.accepted }
 {
     let (_, relvar) = relvars.list.pair_mut(gain.at);
-    take_from(alloc, relvar, &gain.come);
+    take_from(alloc, relvar, &gain.rows.come);
 }
 
 // Takes rows out of a base relvar.

@@ -1,24 +1,25 @@
 // Assignments that add rows to their own targets.
-ghost use Rattle.std.specs.Prelude.{◌≡◌, ◌+◌, ◌≤◌, [], ◌∷◌, List, length, map, option_map, replicate, IfSome, IfOk, IfErr, None};
+ghost use Rattle.std.specs.Prelude.{◌≡◌, ◌+◌, ◌≤◌, [], ◌∷◌, List, length, map, option_map, replicate, IfSome, IfOk, IfErr, Err, None};
 ghost use Rattle.value_core.specs.declared.constraint.Constraint.{Constraint};
 ghost use Rattle.value_core.specs.Values.{Heading as PlainHeading};
 ghost use Rattle.point_core.specs.declared.fault.Place.{Place};
+ghost use Rattle.relation_core.specs.Answers.{Answers};
 ghost use Rattle.tree_core.specs.Items.{read_assignment};
-ghost use Rattle.tree_core.specs.Relvars.{read_relvars, base};
+ghost use Rattle.tree_core.specs.Relvars.{read_relvars, base, Entries};
 ghost use Rattle.tree_core.specs.Trees.{using, read_tree};
 ghost use Rattle.meaning_core.specs.Names.{IsFirstAt};
 ghost use Rattle.meaning_core.specs.Updates.{IsTypedAssignment};
 ghost use Rattle.meaning_core.specs.WellMade.{IsWellMade};
-ghost use Rattle.assign_core.specs.Assignments.{after_assignments, IsRefusedFor};
+ghost use Rattle.assign_core.specs.Assignments.{evaluated};
 ghost use Rattle.assign_core.specs.Costs.{sources_cost};
 ghost use Rattle.assign_core.specs.Insertions.{joined_under, list_in, united_cost, IsInsertion, IsSumOf};
 
 use crate::sources::source;
-use point_core::Steps;
+use point_core::{Steps, Stop};
 use std::alloc::Global;
 use std::sync::ledger::Ledger;
 use tree_core::{Assignment, InfixWord, RelForm, RelTree, Relvar, Relvars};
-use value_core::{Positions, Refuse, Relation};
+use value_core::{Positions, Relation};
 
 /// An assignment that adds the rows of an operand to its own target, point by point for the attributes of a list where it stands
 /// under USING.
@@ -100,13 +101,13 @@ pub(crate) fn evaluate_operand<'a, L: Ledger>(
     relvars: &'a Relvars,
     none: &[Option<Relation>],
     steps: &mut Steps<L>,
-) -> Result<(usize, &'a Relation, Relation), Refuse>
+) -> Result<(usize, &'a Relation, Relation), Stop>
     requires well_made { IsWellMade (read_relvars relvars.now) }
     requires none { none.now ≡ replicate (length relvars.now.list.entries) None }
     requires insertion { IsInsertion insertion }
     requires typed { IsTypedAssignment (read_relvars relvars.now) (read_assignment insertion.assignment.now) }
     ensures sum { IfOk result (λ r. IsSumOf (read_relvars relvars.now).relvars insertion.entry r.0 r.1.now r.2) }
-    ensures refused { IfErr result (λ refuse. IsRefusedFor refuse (after_assignments (read_relvars relvars.now).relvars (read_assignment insertion.entry.assignment.now ∷ []))) }
+    ensures refused { IfErr result (λ stop. Answers {A = Entries} (Err stop) (evaluated (read_relvars relvars.now).relvars (read_relvars relvars.now).relvars (read_assignment insertion.entry.assignment.now ∷ []))) }
     ensures cost { steps.new ≤ steps.old + sources_cost (read_relvars relvars.now).relvars (read_relvars relvars.now).relvars (read_assignment insertion.entry.assignment.now ∷ []) }
     ensures left { IfOk result (λ r. steps.new + united_cost (list_in insertion.entry) (length r.1.now.rows + length r.2.rows)
         ≤ steps.old + sources_cost (read_relvars relvars.now).relvars (read_relvars relvars.now).relvars (read_assignment insertion.entry.assignment.now ∷ [])) }

@@ -2,6 +2,7 @@
 #![tactic(auto)]
 
 mod addition;
+mod admitting;
 mod appending;
 mod assigning;
 mod beside;
@@ -12,24 +13,26 @@ mod counting;
 mod database;
 mod differences;
 mod dropping;
+mod evaluating;
 mod exchange;
 mod filling;
 mod finding;
 mod gaining;
 mod hashed;
+mod in_place;
 mod insertion;
 mod logs;
 mod marking;
 mod merging;
 mod new_rows;
 mod packing;
+mod pending;
 mod performing;
 mod plain;
 mod plain_rows;
 mod portion;
 mod preparing;
 mod reduction;
-mod removal;
 mod renewal;
 mod revision;
 mod room;

@@ -8,8 +8,8 @@ ghost use Rattle.relation_core.specs.Operators.{united};
 ghost use Rattle.assign_core.specs.Exchanges.{HasRoom};
 
 use crate::marking::exchange_each;
-use crate::removal::{Cut, are_behind, keep_run, place_behind};
 use crate::tuning::FEWEST_MERGED_ROWS;
+use row_removal::{Cut, are_behind, keep_run, place_behind};
 use std::alloc::{AllocError, Global};
 use value_core::Row;
 

@@ -1,10 +1,11 @@
 // Rows that come to a base relvar as they are, and not as the value of an expression.
-ghost use Rattle.std.specs.Prelude.{◌≡◌, ◌+◌, ◌≤◌, List, length, option_map, true, Ok, IfErr, IfOk, IfSome};
+ghost use Rattle.std.specs.Prelude.{◌≡◌, ◌+◌, ◌≤◌, List, length, option_map, true, Ok, Err, IfErr, IfOk, IfSome};
 ghost use Rattle.std.specs.List.{All};
 ghost use Rattle.value_core.specs.declared.constraint.Constraint.{Constraint};
 ghost use Rattle.value_core.specs.Values.{most_rows, IsRelation};
+ghost use Rattle.relation_core.specs.Answers.{Answers};
 ghost use Rattle.relation_core.specs.Hashes.{AreHashesOf};
-ghost use Rattle.tree_core.specs.Relvars.{base, read_relvars};
+ghost use Rattle.tree_core.specs.Relvars.{base, read_relvars, Entries};
 ghost use Rattle.meaning_core.specs.Names.{IsFirstAt};
 ghost use Rattle.meaning_core.specs.Typing.{IsListIf};
 ghost use Rattle.assign_core.specs.Arrivals.{entries_then, way_of, IsBaseFor, IsOneAtMost, IsReadied};
@@ -15,21 +16,23 @@ ghost use Rattle.assign_core.specs.Hashed.{AreHashed};
 ghost use Rattle.assign_core.specs.Insertions.{sum_in, united_cost};
 ghost use Rattle.assign_core.specs.Logs.{KeepsLogs};
 ghost use Rattle.assign_core.specs.NewRows.{joined_cost, rows_then, IsFoundIf, IsListFor, IsPaidFor, IsToldOf, StaysUnless, TakesNoneIf};
+ghost use Rattle.assign_core.specs.Pendings.{IsPending};
 ghost use Rattle.assign_core.specs.Targets.{entries_before, IsTarget};
 ghost use Rattle.assign_core.specs.Exchanges.{with_ready, IsReady};
 
 use crate::addition::{Addition, coming};
+use crate::admitting::{admit_pending, admit_values};
 use crate::by_condition::hashed_alone;
-use crate::changes::none_yet;
+use crate::evaluating::pending_addition;
 use crate::exchange::Ready;
 use crate::filling::fill_target;
 use crate::hashed::{Hashed, hashes_at};
-use crate::preparing::{prepare_addition, prepare_exchange, prepare_value};
-use crate::removal::remove;
+use crate::pending::{Pending, alone};
 use crate::settling::settle;
 use crate::target::Target;
-use point_core::{Memory, Place, Steps};
+use point_core::{Memory, Place, Steps, Stop};
 use relation_core::Hashes;
+use row_removal::remove;
 use std::alloc::Global;
 use std::sync::ledger::Ledger;
 use tree_core::{Relvar, Relvars};
@@ -214,12 +217,15 @@ fn ready_for<L: Ledger>(
     ensures cost { steps.new ≤ steps.old + (joined_cost (way_of way.entry) target.entry.value.now.rows rows.rows + constraints_cost (entries_then (entries_before target.entry) (way_of way.entry) target.entry.name.now target.entry.value.now.rows rows)) }
 {
     match way {
-        Coming::Set => prepare_value(alloc, target, rows, steps),
+        Coming::Set => {
+            let changes = alone(alloc, target, rows)?;
+            admit_values(alloc, target.relvars, changes, steps)
+        }
         Coming::Insert(commalist) => join(alloc, target, hashes, commalist, rows, steps),
     }
 }
 
-// What stands ready where rows are added to those of a base relvar, or why that is refused. Without a list none of them is copied.
+// What stands ready where rows are added to those of a base relvar, or why that is refused.
 fn join<L: Ledger>(
     alloc: Global,
     target: Target<'_>,
@@ -242,7 +248,29 @@ fn join<L: Ledger>(
     ensures cost { let sum = sum_in target.entry (option_map (λ l. l.now) commalist.entry) rows.rows in
         steps.new ≤ steps.old + (united_cost (option_map (λ l. l.now) commalist.entry) (length target.entry.value.now.rows + length rows.rows) + constraints_cost_of sum) }
 {
-    let none = none_yet(alloc, target.relvars)?;
+    let pending = pending_join(alloc, target, hashes, commalist, rows, steps)?;
+    admit_pending(alloc, target.relvars, pending, steps)
+}
+
+// What a base relvar gets where rows are added to its own, or the fault of too many rows. Without a list none of these is copied.
+fn pending_join<'a, L: Ledger>(
+    alloc: Global,
+    target: Target<'a>,
+    hashes: &'a [Hashes],
+    commalist: Option<&'a Positions>,
+    rows: Relation,
+    steps: &mut Steps<L>,
+) -> Result<Pending<'a>, Stop>
+    requires kept { IsKept (read_relvars target.relvars.now) }
+    requires target { IsTarget target }
+    requires headed { rows.heading ≡ target.value.now.heading }
+    requires relation { IsRelation target.value.now }
+    requires hashed { All (AreHashesOf target.value.now.rows) hashes.now }
+    requires listed { IsListIf rows.heading (option_map (λ l. l.now) commalist) }
+    ensures pending { IfOk result (IsPending target.entry.relvars.now (sum_in target.entry (option_map (λ l. l.now) commalist.entry) rows.rows)) }
+    ensures refused { IfErr result (λ stop. Answers {A = Entries} (Err stop) (sum_in target.entry (option_map (λ l. l.now) commalist.entry) rows.rows)) }
+    ensures cost { steps.new ≤ steps.old + united_cost (option_map (λ l. l.now) commalist.entry) (length target.entry.value.now.rows + length rows.rows) }
+{
     match commalist {
         Some(_) => {
             let addition = Addition {
@@ -251,14 +279,14 @@ fn join<L: Ledger>(
                 hashes,
                 operand: &rows,
             };
-            prepare_addition(alloc, addition, none.as_slice(), steps)
+            pending_addition(alloc, addition, steps)
         }
         None => {
             let mut come = rows;
             remove(&mut come, alloc, target.value);
             let exchange = coming(alloc, target.value, come)?;
             let known = hashed_alone(hashes);
-            prepare_exchange(alloc, target, exchange, known, none.as_slice(), steps)
+            Ok(Pending::Rows(target, exchange, known))
         }
     }
 }

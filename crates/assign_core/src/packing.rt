@@ -25,7 +25,7 @@ use tree_core::Relvar;
 use value_core::{Constraint, Positions, Relation, RowsRefuse};
 
 /// The list of the addition, where a constraint of the target keeps its rows packed on the very list.
-pub(crate) fn packed_list(addition: Addition<'_>) -> Option<&Positions>
+pub(crate) fn packed_list<'a>(addition: Addition<'a, '_>) -> Option<&'a Positions>
     requires kept { IsKept (read_relvars addition.target.relvars.now) }
     requires addition { IsAddition addition }
     ensures { IfSome result (λ l. IsPackedOn addition.entry l.now) }
@@ -37,7 +37,7 @@ pub(crate) fn packed_list(addition: Addition<'_>) -> Option<&Positions>
 }
 
 // Whether a constraint of the target keeps its rows packed on the list.
-fn is_packed_on(addition: Addition<'_>, commalist: &Positions) -> bool
+fn is_packed_on(addition: Addition<'_, '_>, commalist: &Positions) -> bool
     requires kept { IsKept (read_relvars addition.target.relvars.now) }
     requires addition { IsAddition addition }
     ensures { result ≡ true → packed commalist.now addition.entry.target.value.now.rows ≡ addition.entry.target.value.now.rows }
@@ -97,7 +97,7 @@ pub(crate) fn are_same(left: &Positions, right: &Positions) -> bool
 /// The rows that the target gains and loses where it is packed on the list, or the fault of too many rows.
 pub(crate) fn exchange_of<L: Ledger>(
     alloc: Global,
-    addition: Addition<'_>,
+    addition: Addition<'_, '_>,
     commalist: &Positions,
     steps: &mut Steps<L>,
 ) -> Result<Exchange, Stop>

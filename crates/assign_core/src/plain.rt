@@ -11,10 +11,10 @@ use tree_core::{Assignment, InfixWord, RelForm, RelTree, Sets};
 use value_core::{Name, Positions};
 
 /// The assignment as a deletion without USING, where it is one. The list of no attribute stands in the place of that of its USING.
-pub(crate) fn as_plain_deletion<'a>(
+pub(crate) fn as_plain_deletion<'a: 'b, 'b>(
     assignment: &'a Assignment,
-    none: &'a Positions,
-) -> Option<Deletion<'a>>
+    none: &'b Positions,
+) -> Option<Deletion<'a, 'b>>
     requires { none.now ≡ [] }
     ensures same { IfSome result (λ d. d.assignment.now ≡ assignment.now) }
     ensures is { IfSome result IsPlainDeletion }
@@ -48,10 +48,10 @@ fn as_plain_portion<'a>(
 }
 
 /// The assignment as a revision without USING, where it is one. The list of no attribute stands in the place of that of its USING.
-pub(crate) fn as_plain_revision<'a>(
+pub(crate) fn as_plain_revision<'a: 'b, 'b>(
     assignment: &'a Assignment,
-    none: &'a Positions,
-) -> Option<Revision<'a>>
+    none: &'b Positions,
+) -> Option<Revision<'a, 'b>>
     requires { none.now ≡ [] }
     ensures same { IfSome result (λ r. r.assignment.now ≡ assignment.now) }
     ensures is { IfSome result IsPlainRevision }
@@ -63,13 +63,13 @@ pub(crate) fn as_plain_revision<'a>(
 }
 
 // The assignment of two expressions joined by a word as a revision, where it is one.
-fn joined_by<'a>(
+fn joined_by<'a: 'b, 'b>(
     assignment: &'a Assignment,
     word: InfixWord,
     left: &'a RelTree,
     right: &'a RelTree,
-    none: &'a Positions,
-) -> Option<Revision<'a>>
+    none: &'b Positions,
+) -> Option<Revision<'a, 'b>>
     requires none { none.now ≡ [] }
     requires joined { read_tree assignment.now.tree ≡ infix_of assignment.now.tree.place assignment.now.tree.heading word (read_tree left.now) (read_tree right.now) }
     ensures same { IfSome result (λ r. r.assignment.now ≡ assignment.now) }
@@ -82,12 +82,12 @@ fn joined_by<'a>(
 }
 
 // The assignment of the union of two expressions as a revision, where it is one.
-fn of_parts<'a>(
+fn of_parts<'a: 'b, 'b>(
     assignment: &'a Assignment,
     left: &'a RelTree,
     right: &'a RelTree,
-    none: &'a Positions,
-) -> Option<Revision<'a>>
+    none: &'b Positions,
+) -> Option<Revision<'a, 'b>>
     requires none { none.now ≡ [] }
     requires joined { read_tree assignment.now.tree ≡ infix_of assignment.now.tree.place assignment.now.tree.heading UnionOf (read_tree left.now) (read_tree right.now) }
     ensures same { IfSome result (λ r. r.assignment.now ≡ assignment.now) }

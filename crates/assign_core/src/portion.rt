@@ -20,14 +20,14 @@ pub(crate) struct Portion<'a> {
 
 /// An assignment that leaves its target's rows at the points where a condition holds, which is the negation of another one.
 #[derive(Clone, Copy)]
-pub(crate) struct Deletion<'a> {
+pub(crate) struct Deletion<'a, 'b> {
     pub assignment: &'a Assignment,
-    pub kept: Portion<'a>,
-    pub gone: &'a Scalar,
+    pub kept: Portion<'b>,
+    pub gone: &'b Scalar,
 }
 
 /// The assignment as a deletion under USING, where it is one.
-pub(crate) fn as_deletion(assignment: &Assignment) -> Option<Deletion<'_>>
+pub(crate) fn as_deletion<'a>(assignment: &'a Assignment) -> Option<Deletion<'a, 'a>>
     ensures same { IfSome result (λ d. d.assignment.now ≡ assignment.now) }
     ensures is { IfSome result IsDeletion }
 {

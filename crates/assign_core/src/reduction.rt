@@ -39,16 +39,19 @@ use value_core::{Positions, Relation};
 
 /// A deletion with the place and the value of its target, and the rows that its condition affects.
 #[derive(Clone, Copy)]
-pub(crate) struct Reduction<'a> {
+pub(crate) struct Reduction<'a, 'b> {
     pub relvars: &'a Relvars,
-    pub deletion: Deletion<'a>,
+    pub deletion: Deletion<'a, 'b>,
     pub at: usize,
     pub value: &'a Relation,
-    pub part: &'a Relation,
+    pub part: &'b Relation,
 }
 
 /// The place of the target, and its value.
-pub(crate) fn deletion_at<'a>(relvars: &'a Relvars, deletion: Deletion<'_>) -> (usize, &'a Relation)
+pub(crate) fn deletion_at<'a>(
+    relvars: &'a Relvars,
+    deletion: Deletion<'_, '_>,
+) -> (usize, &'a Relation)
     requires deletion { IsAnyDeletion deletion }
     requires typed { IsTypedAssignment (read_relvars relvars.now) (read_assignment deletion.assignment.now) }
     ensures { IsDeletionOf (read_relvars relvars.now).relvars deletion.entry result.0 result.1.now }
@@ -63,7 +66,7 @@ pub(crate) fn deletion_at<'a>(relvars: &'a Relvars, deletion: Deletion<'_>) -> (
 pub(crate) fn deleted_part(
     alloc: Global,
     relvars: &Relvars,
-    deletion: Deletion<'_>,
+    deletion: Deletion<'_, '_>,
     at: usize,
     value: &Relation,
     hashes: &[Hashes],
@@ -152,7 +155,7 @@ fn rows_at_points<L: Ledger>(
 /// The rows that the target gains and loses, or the fault of the condition.
 pub(crate) fn deleted<L: Ledger>(
     alloc: Global,
-    reduction: Reduction<'_>,
+    reduction: Reduction<'_, '_>,
     steps: &mut Steps<L>,
 ) -> Result<Exchange, Stop>
     requires { IsReduction reduction }

@@ -40,17 +40,20 @@ use value_core::{MOST_ROWS, Relation, RowsRefuse};
 
 /// A revision with the place, the value and the hashes of its target, and the rows that its conditions affect.
 #[derive(Clone, Copy)]
-pub(crate) struct Renewal<'a> {
+pub(crate) struct Renewal<'a, 'b> {
     pub relvars: &'a Relvars,
-    pub revision: Revision<'a>,
+    pub revision: Revision<'a, 'b>,
     pub at: usize,
     pub value: &'a Relation,
     pub hashes: &'a [Hashes],
-    pub part: &'a Relation,
+    pub part: &'b Relation,
 }
 
 /// The place of the target, and its value.
-pub(crate) fn revision_at<'a>(relvars: &'a Relvars, revision: Revision<'_>) -> (usize, &'a Relation)
+pub(crate) fn revision_at<'a>(
+    relvars: &'a Relvars,
+    revision: Revision<'_, '_>,
+) -> (usize, &'a Relation)
     requires revision { IsAnyRevision revision }
     requires typed { IsTypedAssignment (read_relvars relvars.now) (read_assignment revision.assignment.now) }
     ensures { IsRevisionOf (read_relvars relvars.now).relvars revision.entry result.0 result.1.now }
@@ -65,7 +68,7 @@ pub(crate) fn revision_at<'a>(relvars: &'a Relvars, revision: Revision<'_>) -> (
 pub(crate) fn revised_part(
     alloc: Global,
     relvars: &Relvars,
-    revision: Revision<'_>,
+    revision: Revision<'_, '_>,
     at: usize,
     value: &Relation,
     hashes: &[Hashes],
@@ -91,7 +94,7 @@ pub(crate) fn revised_part(
 // What is left of the rows that the conditions affect, or the fault of the condition, or that of too many rows with the others.
 fn left_rows<L: Ledger>(
     alloc: Global,
-    renewal: Renewal<'_>,
+    renewal: Renewal<'_, '_>,
     steps: &mut Steps<L>,
 ) -> Result<Relation, Stop>
     requires { IsRenewal renewal }
@@ -173,7 +176,7 @@ fn added_rows<L: Ledger>(
 // The rows that the target gains and loses where these are left and added, or the fault of too many rows.
 fn exchange_with<L: Ledger>(
     alloc: Global,
-    renewal: Renewal<'_>,
+    renewal: Renewal<'_, '_>,
     left: &Relation,
     added: &Relation,
     steps: &mut Steps<L>,
@@ -196,7 +199,7 @@ fn exchange_with<L: Ledger>(
 // The same without USING.
 fn exchange_plainly(
     alloc: Global,
-    renewal: Renewal<'_>,
+    renewal: Renewal<'_, '_>,
     left: &Relation,
     added: &Relation,
 ) -> Result<Exchange, Stop>
@@ -218,7 +221,7 @@ fn exchange_plainly(
 // The same under USING.
 fn exchange_at_points<L: Ledger>(
     alloc: Global,
-    renewal: Renewal<'_>,
+    renewal: Renewal<'_, '_>,
     left: &Relation,
     added: &Relation,
     steps: &mut Steps<L>,
@@ -250,7 +253,7 @@ fn exchange_at_points<L: Ledger>(
 /// The rows that the target gains and loses, or the fault that comes in the place of its value.
 pub(crate) fn revised<L: Ledger>(
     alloc: Global,
-    renewal: Renewal<'_>,
+    renewal: Renewal<'_, '_>,
     steps: &mut Steps<L>,
 ) -> Result<Exchange, Stop>
     requires { IsRenewal renewal }

@@ -24,16 +24,16 @@ pub(crate) struct Changed<'a> {
 /// An assignment that leaves its target's rows at the points where a condition holds, which is the negation of another one, and adds
 /// changed rows.
 #[derive(Clone, Copy)]
-pub(crate) struct Revision<'a> {
+pub(crate) struct Revision<'a, 'b> {
     pub assignment: &'a Assignment,
-    pub commalist: &'a Positions,
-    pub kept: Portion<'a>,
-    pub gone: &'a Scalar,
-    pub changed: Changed<'a>,
+    pub commalist: &'b Positions,
+    pub kept: Portion<'b>,
+    pub gone: &'b Scalar,
+    pub changed: Changed<'b>,
 }
 
 /// The assignment as a revision under USING, where it is one.
-pub(crate) fn as_revision(assignment: &Assignment) -> Option<Revision<'_>>
+pub(crate) fn as_revision<'a>(assignment: &'a Assignment) -> Option<Revision<'a, 'a>>
     ensures same { IfSome result (λ r. r.assignment.now ≡ assignment.now) }
     ensures is { IfSome result IsRevision }
 {
@@ -48,7 +48,7 @@ fn joined_under<'a>(
     assignment: &'a Assignment,
     commalist: &'a Positions,
     part: &'a RelTree,
-) -> Option<Revision<'a>>
+) -> Option<Revision<'a, 'a>>
     requires { read_tree assignment.now.tree ≡ using assignment.now.tree.place assignment.now.tree.heading commalist.now (read_tree part.now) }
     ensures same { IfSome result (λ r. r.assignment.now ≡ assignment.now) }
     ensures is { IfSome result IsRevision }
@@ -69,7 +69,7 @@ fn with_word<'a>(
     word: InfixWord,
     left: &'a RelTree,
     right: &'a RelTree,
-) -> Option<Revision<'a>>
+) -> Option<Revision<'a, 'a>>
     requires { read_tree assignment.now.tree ≡ using assignment.now.tree.place assignment.now.tree.heading commalist.now
         (infix_of part.now.place part.now.heading word (read_tree left.now) (read_tree right.now)) }
     ensures same { IfSome result (λ r. r.assignment.now ≡ assignment.now) }
@@ -88,7 +88,7 @@ fn with_parts<'a>(
     part: &RelTree,
     left: &'a RelTree,
     right: &'a RelTree,
-) -> Option<Revision<'a>>
+) -> Option<Revision<'a, 'a>>
     requires { read_tree assignment.now.tree ≡ using assignment.now.tree.place assignment.now.tree.heading commalist.now
         (infix_of part.now.place part.now.heading UnionOf (read_tree left.now) (read_tree right.now)) }
     ensures same { IfSome result (λ r. r.assignment.now ≡ assignment.now) }

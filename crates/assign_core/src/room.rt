@@ -9,11 +9,11 @@ ghost use Rattle.assign_core.specs.Turnovers.{renewed};
 
 use crate::marking::exchange_each;
 use crate::merging::{cut_front, make_room, put_many};
-use crate::removal::take_out;
 use crate::tuning::MOST_ROWS_ONE_BY_ONE;
 use change_rows::Exchange;
 use point_core::Memory;
 use relation_core::Hashes;
+use row_removal::take_out;
 use std::alloc::Global;
 use value_core::{Relation, Row};
 

@@ -16,10 +16,10 @@ ghost use Rattle.assign_core.specs.Turnovers.{renewed, renewed_relvar, after_tur
 use crate::changes::value_of;
 use crate::checking::breach;
 use crate::packing::are_same;
-use crate::removal::remove;
 use change_rows::Exchange;
 use point_core::{Code, Memory, Steps};
 use relation_core::Hashes;
+use row_removal::remove;
 use std::alloc::Global;
 use std::sync::ledger::Ledger;
 use tree_core::{Relvar, Relvars};

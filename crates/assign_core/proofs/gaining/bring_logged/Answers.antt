@@ -24,3 +24,22 @@ returns-in_err-come-clause-beside g c =
     let p = err_from_is_err_and c.from_residual.result c.from_residual.ensures.1 in
     subst (λ (r : Result Bool Refuse). HasRoomIf (joining None) r s c.args.target.now c.args.rows) (sym p.1)
     (has_room_for s c.args.target.now c.args.rows c.in-Some.at c.in-Some.value.now c.requires.kept c.requires.step c.in-Some.ensures)
+
+pub returns-in_err-gone-clause-brought : goal.returns-in_err-gone-clause-brought
+returns-in_err-gone-clause-brought g c =
+    let p = err_from_is_err_and c.from_residual-in_err-gone.result c.from_residual-in_err-gone.ensures.1 in
+    rw (p.1, p.2) (read_relvars c.args.relvars.now, (λ old at there given k. (tt, refl)), refl)
+
+pub returns-in_err-gone-clause-found : goal.returns-in_err-gone-clause-found
+returns-in_err-gone-clause-found g c =
+    let s = read_relvars c.args.relvars.now in
+    let p = err_from_is_err_and c.from_residual-in_err-gone.result c.from_residual-in_err-gone.ensures.1 in
+    subst (λ (r : Result Bool Refuse). IsFoundIf r s c.args.target.now c.args.rows.heading) (sym p.1)
+    (found_base s c.args.target.now c.args.rows c.in-Some.at c.in-Some.value.now c.requires.kept c.requires.step c.in-Some.ensures)
+
+pub returns-in_err-gone-clause-beside : goal.returns-in_err-gone-clause-beside
+returns-in_err-gone-clause-beside g c =
+    let s = read_relvars c.args.relvars.now in
+    let p = err_from_is_err_and c.from_residual-in_err-gone.result c.from_residual-in_err-gone.ensures.1 in
+    subst (λ (r : Result Bool Refuse). HasRoomIf (joining None) r s c.args.target.now c.args.rows) (sym p.1)
+    (has_room_for s c.args.target.now c.args.rows c.in-Some.at c.in-Some.value.now c.requires.kept c.requires.step c.in-Some.ensures)

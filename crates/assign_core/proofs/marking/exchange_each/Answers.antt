@@ -9,7 +9,7 @@ use Rattle.value_core.proofs.PlacingLemmas.{sorted_union, union_none}
 use Rattle.relation_core.specs.Operators.{subtracted, united}
 use Rattle.u_constraints.specs.Growth.{exchanged}
 use Rattle.u_constraints.proofs.GrowthLemmas.{all_left}
-use Rattle.assign_core.proofs.RemovalLemmas.{sorted_taken}
+use Rattle.row_removal.proofs.RemovalLemmas.{sorted_taken}
 use Rattle.assign_core.proofs.InTurnLemmas.{exchanged_turn, exchanged_all, has_at}
 use Rattle.assign_core.proofs.marking.exchange_each.Goals as goal
 

@@ -3,7 +3,7 @@ use Rattle.std.specs.List.Sorted.{IsStrictlySortedBy}
 use Rattle.value_core.specs.Values.{Row, row_cmp}
 use Rattle.relation_core.specs.Operators.{subtracted}
 use Rattle.u_constraints.proofs.GrowthLemmas.{all_left}
-use Rattle.assign_core.proofs.RemovalLemmas.{taken_turn, sorted_taken, one_more}
+use Rattle.row_removal.proofs.RemovalLemmas.{taken_turn, sorted_taken, one_more}
 use Rattle.assign_core.proofs.marking.take_out_all.Goals as goal
 
 pub loop-row-init : goal.loop-row-init

@@ -2,7 +2,7 @@ use Rattle.std.proofs.Common.{◌≡◌, ◌<◌, ◌≤◌, length, List, Err, 
 use Rattle.std.specs.List.{HoldsAt}
 use Rattle.std.specs.List.Sorted.{IsBinarySearchResult}
 use Rattle.value_core.specs.Values.{Row, row_cmp}
-use Rattle.assign_core.proofs.RemovalLemmas.{taken_found, taken_missing}
+use Rattle.row_removal.proofs.RemovalLemmas.{taken_found, taken_missing}
 use Rattle.assign_core.proofs.marking.take_out_one.Goals as goal
 
 pub returns-in-Ok-clause-rows : goal.returns-in-Ok-clause-rows

@@ -7,7 +7,7 @@ use Rattle.std.specs.Vec.{vec_len}
 use Rattle.value_core.specs.Values.{Row, row_cmp}
 use Rattle.relation_core.specs.Operators.{united}
 use Rattle.relation_core.proofs.FilterLemmas.{head_of}
-use Rattle.assign_core.proofs.CutLemmas.{further_rest}
+use Rattle.row_removal.proofs.CutLemmas.{further_rest}
 use Rattle.assign_core.proofs.MergingLemmas.{nothing_left, rest_sorted}
 use Rattle.assign_core.proofs.merging.merge_in.Goals as goal
 

@@ -1,7 +1,7 @@
 use Rattle.std.proofs.Common.{◌<◌, ◌+◌, length, List, Ok, Err, take, subst, arith}
 use Rattle.std.proofs.lemmas.List.{take_more_set}
 use Rattle.value_core.specs.Values.{Row}
-use Rattle.assign_core.specs.Removals.{IsPlaceBehind}
+use Rattle.row_removal.specs.Removals.{IsPlaceBehind}
 use Rattle.assign_core.proofs.MergingLemmas.{kept_count, put_found, put_missing}
 use Rattle.assign_core.proofs.merging.put_next.Goals as goal
 

@@ -1,46 +1,51 @@
-use Rattle.std.proofs.Common.{◌≡◌, ◌≤◌, ◌+◌, length, sym, subst, arith, Ok, option_map}
+use Rattle.std.proofs.Common.{◌≡◌, ◌≤◌, ◌+◌, length, ap, sym, subst, arith, Ok, option_map}
 use Rattle.std.specs.Prelude.{IfErr, IfOk}
 use Rattle.point_core.specs.Faults.{OrFault}
 use Rattle.value_core.specs.Values.{most_rows}
 use Rattle.tree_core.specs.Relvars.{Entries}
 use Rattle.assign_core.specs.declared.new_rows.Coming.{Coming}
 use Rattle.assign_core.specs.Arrivals.{entries_then, way_of}
-use Rattle.assign_core.specs.Assignments.{kept_or_refused, of_values, IsRefusedFor}
+use Rattle.relvar_logs.specs.Changes.{changed}
+use Rattle.assign_core.specs.Assignments.{kept_or_refused, of_values, with_target, IsRefusedFor}
 use Rattle.assign_core.specs.Costs.{constraints_cost, constraints_cost_of}
 use Rattle.assign_core.specs.Insertions.{united_cost}
 use Rattle.assign_core.specs.NewRows.{replacing, joined_cost, rows_then, IsListFor}
 use Rattle.assign_core.specs.Targets.{entries_before}
 use Rattle.assign_core.specs.Exchanges.{with_ready}
 use Rattle.assign_core.proofs.NewRowLemmas.{sum_fits}
+use Rattle.assign_core.proofs.PendingLemmas.{values_admitted}
 use Rattle.assign_core.proofs.new_rows.ready_for.Goals as goal
 
-pub prepare_value-requires-clause-target : goal.prepare_value-requires-clause-target
-prepare_value-requires-clause-target g c =
+pub alone-requires-clause-target : goal.alone-requires-clause-target
+alone-requires-clause-target g c =
     record { constraints = c.requires.base.constraints; first = c.requires.base.first }
 
 pub join-requires-clause-target : goal.join-requires-clause-target
 join-requires-clause-target g c =
     record { constraints = c.requires.base.constraints; first = c.requires.base.first }
 
-pub returns-in-Set-clause-meant : goal.returns-in-Set-clause-meant
-returns-in-Set-clause-meant g c =
+pub returns-in_ok-changes-in-Set-clause-meant : goal.returns-in_ok-changes-in-Set-clause-meant
+returns-in_ok-changes-in-Set-clause-meant g c =
     let t = c.args.target in
     let es = entries_before t in
-    subst (λ (w : Coming). IfOk c.prepare_value.result (λ r. kept_or_refused (entries_then es (way_of w) t.name.now t.value.now.rows c.args.rows) ≡ Ok (with_ready r es))) (sym c.in-Set.is) c.prepare_value.ensures.meant
+    subst (λ (w : Coming). IfOk c.admit_values.result (λ r. kept_or_refused (entries_then es (way_of w) t.name.now t.value.now.rows c.args.rows) ≡ Ok (with_ready r es))) (sym c.in-Set.is)
+    (values_admitted c.admit_values.result es (changed c.in_ok-changes-in-Set.changes.items es) (Ok (with_target es t.name.now c.args.rows)) (ap Ok (sym c.in_ok-changes-in-Set.ensures.made)) c.admit_values.ensures.made c.admit_values.ensures.admitted)
 
-pub returns-in-Set-clause-refused : goal.returns-in-Set-clause-refused
-returns-in-Set-clause-refused g c =
+pub returns-in_ok-changes-in-Set-clause-refused : goal.returns-in_ok-changes-in-Set-clause-refused
+returns-in_ok-changes-in-Set-clause-refused g c =
     let t = c.args.target in
     let es = entries_before t in
-    subst (λ (w : Coming). IfErr c.prepare_value.result (λ refuse. IsRefusedFor refuse (kept_or_refused (entries_then es (way_of w) t.name.now t.value.now.rows c.args.rows)))) (sym c.in-Set.is) c.prepare_value.ensures.refused
+    subst (λ (w : Coming). IfErr c.admit_values.result (λ refuse. IsRefusedFor refuse (kept_or_refused (entries_then es (way_of w) t.name.now t.value.now.rows c.args.rows)))) (sym c.in-Set.is)
+    (subst (λ (z : Entries). IfErr c.admit_values.result (λ refuse. IsRefusedFor refuse (kept_or_refused z))) c.in_ok-changes-in-Set.ensures.made c.admit_values.ensures.refused)
 
-pub returns-in-Set-clause-cost : goal.returns-in-Set-clause-cost
-returns-in-Set-clause-cost g c =
+pub returns-in_ok-changes-in-Set-clause-cost : goal.returns-in_ok-changes-in-Set-clause-cost
+returns-in_ok-changes-in-Set-clause-cost g c =
     let t = c.args.target in
     let es = entries_before t in
-    let taken = c.prepare_value.ensures.cost in
-    let all : c.prepare_value.new.steps ≤ c.args.steps.now + (joined_cost replacing t.value.now.rows c.args.rows.rows + constraints_cost (entries_then es replacing t.name.now t.value.now.rows c.args.rows)) = omega (arith, taken) in
-    subst (λ (w : Coming). c.prepare_value.new.steps ≤ c.args.steps.now + (joined_cost (way_of w) t.value.now.rows c.args.rows.rows + constraints_cost (entries_then es (way_of w) t.name.now t.value.now.rows c.args.rows)))
+    let taken : c.admit_values.new.steps ≤ c.args.steps.now + constraints_cost (with_target es t.name.now c.args.rows) =
+    subst (λ (z : Entries). c.admit_values.new.steps ≤ c.args.steps.now + constraints_cost z) c.in_ok-changes-in-Set.ensures.made c.admit_values.ensures.cost in
+    let all : c.admit_values.new.steps ≤ c.args.steps.now + (joined_cost replacing t.value.now.rows c.args.rows.rows + constraints_cost (entries_then es replacing t.name.now t.value.now.rows c.args.rows)) = omega (arith, taken) in
+    subst (λ (w : Coming). c.admit_values.new.steps ≤ c.args.steps.now + (joined_cost (way_of w) t.value.now.rows c.args.rows.rows + constraints_cost (entries_then es (way_of w) t.name.now t.value.now.rows c.args.rows)))
     (sym c.in-Set.is) all
 
 pub join-requires-clause-listed : goal.join-requires-clause-listed
