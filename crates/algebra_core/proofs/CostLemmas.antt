@@ -31,7 +31,7 @@ known_prices s = known_each [] (take s.before (given (with_of s) (value_of s) (a
 
 cost_with : (prices : Prices) (value : Relation) (r : PlainRelvar) → relvar_cost prices (with_value value r) ≡ relvar_cost prices r
 cost_with prices value (base old constraints) = refl
-cost_with prices value (view t history) = refl
+cost_with prices value (view t kind) = refl
 cost_with prices value (log of side last old) = refl
 
 cost_if : (b : Bool) (prices : Prices) (value : Relation) (r : PlainRelvar) → relvar_cost prices (cond b (with_value value r) r) ≡ relvar_cost prices r

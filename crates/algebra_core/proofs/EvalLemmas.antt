@@ -10,7 +10,7 @@ use Rattle.point_core.specs.declared.fault.Stop.{Stop}
 use Rattle.value_core.specs.declared.constraint.Constraint.{Constraint}
 use Rattle.value_core.specs.Values.{Name, Heading, Relation}
 use Rattle.relation_core.specs.Answers.{Answers, under}
-use Rattle.tree_core.specs.Relvars.{PlainRelvar, base, view, Entries, relvar_named, relvar_heading, heading_if, read_relvar, read_entry}
+use Rattle.tree_core.specs.Relvars.{PlainRelvar, base, view, Entries, relvar_named, relvar_heading, heading_if, read_relvar, read_entry, PlainKind}
 use Rattle.tree_core.specs.Trees.{Tree, named}
 use Rattle.tree_core.specs.declared.relvar.Relvar.{Relvar}
 use Rattle.meaning_core.specs.Meanings.{RowsMeant, Known, at_name, limited, relvar_meaning, known_in}
@@ -53,11 +53,11 @@ module _ (s : Scope) (place : Place) (h : Heading) (name : Name) (at : ℕ) (x :
 
 -- ---- what an entry is
 
-pub view_can : (s : Scope) (name : Name) (at : ℕ) (t : Tree) (history : Option (Name × Name)) → CanLookUp s name at (view t history) → CanEvaluate (up_to s at) t
-view_can s name at t history can = record {
+pub view_can : (s : Scope) (name : Name) (at : ℕ) (t : Tree) (kind : PlainKind) → CanLookUp s name at (view t kind) → CanEvaluate (up_to s at) t
+view_can s name at t kind can = record {
   relvars = can.relvars;
   given = can.given;
-  typed = (relvar_first (sizes_of (state_of s).ordinals) (all_of s) name at (view t history) can.relvars can.first).1.0;
+  typed = (relvar_first (sizes_of (state_of s).ordinals) (all_of s) name at (view t kind) can.relvars can.first).1.0;
 }
 
 base_by : (entries : Entries) (known : Known) (with : Option Name) (value : Option Relation) (name : Name) (old : Relation) (constraints : List Constraint)

@@ -40,5 +40,5 @@ module _ (s : Scope) (place : Place) (h : Heading) (name : Name) (at : ℕ) wher
       let here = base_meant s name at old constraints (can_look_up s place h name at (base old constraints) can first) in
       let whole = here ∙ ap (λ (r : Relation). Ok r) (same_value (current (with_of s) (value_of s) name old) v kept.is) in
       named_meant s place h name at (base old constraints) can first (Ok v) (named_few old.heading (stored_meaning s name at (base old constraints)) place v kept.few whole)
-  kept_meant (view t history) v can first kept = absurd (no_value v kept.is)
+  kept_meant (view t kind) v can first kept = absurd (no_value v kept.is)
   kept_meant (log of side last value) v can first kept = absurd (no_value v kept.is)

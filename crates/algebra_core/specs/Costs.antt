@@ -66,7 +66,7 @@ tree_cost prices around (using place heading commalist t) = tree_cost prices (in
 -- what a relvar's name means and takes: the value of a base relvar or a log stands there
 abbrev pub relvar_cost : Prices → PlainRelvar → ℕ
 relvar_cost prices (base value constraints) = 0
-relvar_cost prices (view t history) = tree_cost prices plainly t
+relvar_cost prices (view t kind) = tree_cost prices plainly t
 relvar_cost prices (log of side last value) = 0
 
 abbrev pub priced : Prices → PlainRelvar → Priced

@@ -21,7 +21,7 @@ held_in (Err stop) = Err stop
 -- the value of a base relvar, or the one that stands for it; none of a view or a log
 abbrev pub kept_value : Scope → Name → PlainRelvar → Option Relation
 kept_value s name (base old constraints) = Some (current (with_of s) (value_of s) name old)
-kept_value s name (view t history) = None
+kept_value s name (view t kind) = None
 kept_value s name (log of side last value) = None
 
 -- the relation stands for the name of the relvar, and has not too many rows

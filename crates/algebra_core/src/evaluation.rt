@@ -123,7 +123,7 @@ fn stored<L: Ledger>(
             value,
             constraints: _,
         } => base_value(alloc, name, value, scope),
-        Relvar::View { tree, history: _ } => {
+        Relvar::View { tree, kind: _ } => {
             let before = earlier(scope, at);
             answer(alloc, tree, Surrounding::Plainly, &before, steps)
         }
@@ -391,10 +391,7 @@ fn kept_at<'a>(name: &Name, relvar: &'a Relvar, scope: &Scope<'a>) -> Option<&'a
             prove!(relation.rows().len() <= MOST_ROWS);
             Some(relation)
         }
-        Relvar::View {
-            tree: _,
-            history: _,
-        } => None,
+        Relvar::View { tree: _, kind: _ } => None,
         Relvar::Log { of: _, log: _ } => None,
     }
 }

@@ -74,7 +74,7 @@ each_checked all value own (c ∷ cs) fit =
 
 relvar_checked : (all : Entries) (r : PlainRelvar) → AreFitting all r (constraints_of r) → AreChecked all r
 relvar_checked all (base value constraints) fit = each_checked all value constraints constraints fit
-relvar_checked all (view t history) fit = tt
+relvar_checked all (view t kind) fit = tt
 relvar_checked all (log of side last w) fit = tt
 
 all_checked : (all es : Entries) → AllFit all es → AllChecked all es

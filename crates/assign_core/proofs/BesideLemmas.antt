@@ -112,7 +112,7 @@ module _ (name : Name) (w : Relation) where
 
   count-value : (own : Name) (r : PlainRelvar) → count_of (own, with_value w r) ≤ count_of (own, r) + length w.rows
   count-value own (base value constraints) = omega arith
-  count-value own (view t history) = omega arith
+  count-value own (view t kind) = omega arith
   count-value own (log of side last value) = omega arith
 
   given_rows : (es : Entries) → IsDistinct bytes_eq (names_in es) → rows_of_all (given (Some name) (Some w) es) ≤ rows_of_all es + length w.rows
@@ -134,7 +134,7 @@ module _ (name : Name) (w : Relation) where
       where
         by : (b : Bool) (r : PlainRelvar) → log_count (turned_relvar all (cond b (with_value w r) r)) ≡ log_count (turned_relvar all r)
         by true (base value constraints) = refl
-        by true (view t history) = refl
+        by true (view t kind) = refl
         by true (log of side last value) = refl
         by false r = refl
 
@@ -154,7 +154,7 @@ module _ (name : Name) (w : Relation) where
       where
         by : (b : Bool) (r : PlainRelvar) → IsInStep n all r → IsInStep n all (cond b (with_value w r) r)
         by true (base value constraints) k = tt
-        by true (view t history) k = tt
+        by true (view t kind) k = tt
         by true (log of side last value) k = k
         by false r k = k
 
@@ -178,7 +178,7 @@ module _ (old new : Entries) where
 
   turned-one : (own : Name) (r : PlainRelvar) (es : Entries) → HaveSame old new ((own, r) ∷ es) → turned_relvar new r ≡ turned_relvar old r
   turned-one own (base value constraints) es h = refl
-  turned-one own (view t history) es h = refl
+  turned-one own (view t kind) es h = refl
   turned-one own (log of side last value) es h =
       ap (λ (rows : List Row). log of side (last +ℤ pos 1) (record { heading = value.heading; rows = moved side (last +ℤ pos 1) rows value.rows })) (same-first own of side last value es h)
 
@@ -188,7 +188,7 @@ module _ (old new : Entries) where
 
   step-one : (n : ℤ) (own : Name) (r : PlainRelvar) (es : Entries) → HaveSame old new ((own, r) ∷ es) → IsInStep n old r → IsInStep n new r
   step-one n own (base value constraints) es h k = tt
-  step-one n own (view t history) es h k = tt
+  step-one n own (view t kind) es h k = tt
   step-one n own (log of side last value) es h k = (k.0, k.1 ∙ sym (same-first own of side last value es h))
 
   step-same : (n : ℤ) (es : Entries) → HaveSame old new es → All (λ r. IsInStep n old r.1) es → All (λ r. IsInStep n new r.1) es

@@ -58,7 +58,7 @@ absent_changed (e ∷ es) (c ∷ cs) name none =
 bare_change : (c : Option Relation) (r : PlainRelvar) → IsChange c r → bare (changed_relvar c r) ≡ bare r
 bare_change None r h = refl
 bare_change (Some value) (base old constraints) h = bare-with_value value (base old constraints) h
-bare_change (Some value) (view t history) h = absurd h
+bare_change (Some value) (view t kind) h = absurd h
 bare_change (Some value) (log of side last w) h = absurd h
 
 pub bare_changed : (cs : Changes) (es : Entries) → AreChanges cs es → bare_all (changed cs es) ≡ bare_all es
@@ -70,7 +70,7 @@ bare_changed (c ∷ cs) (e ∷ es) h = ap₂ (λ (x : PlainRelvar) (z : Entries)
 
 pub is_change : (r : PlainRelvar) (value : Relation) (o : Option PlainRelvar) → o ≡ Some r → IsBase o → value.heading ≡ heading_if o → IsChange (Some value) r
 is_change (base old constraints) value o e b h = h ∙ ap heading_if e
-is_change (view t history) value o e b h = absurd (subst IsBase e b)
+is_change (view t kind) value o e b h = absurd (subst IsBase e b)
 is_change (log of side last w) value o e b h = absurd (subst IsBase e b)
 
 pub put_change : (es : Entries) (cs : Changes) (name : Name) (i : ℕ) (r : PlainRelvar) (value : Relation) → AreChanges cs es → IsFirstAt es name i r → IsChange (Some value) r
@@ -83,7 +83,7 @@ put_change (e ∷ es) (c ∷ cs) name (suc i) r value h first is = (h.0, put_cha
 twice : (c : Option Relation) (value : Relation) (r : PlainRelvar) → with_value value r ≡ with_value value (changed_relvar c r)
 twice None value r = refl
 twice (Some old) value (base before constraints) = refl
-twice (Some old) value (view t history) = refl
+twice (Some old) value (view t kind) = refl
 twice (Some old) value (log of side last w) = refl
 
 apart_given : (es : Entries) (cs : Changes) (own name : Name) (value : Relation) → bytes_eq own name ≡ true → AllByRecursion (λ n. bytes_eq own n ≡ false) (names_in es)

@@ -21,7 +21,7 @@ use Rattle.assign_core.proofs.DeclaredLemmas.{neither, none_of_two}
 named_base : (o : Option PlainRelvar) → IsBase o → heading_or_none (value_if o) ≡ heading_if o
 named_base None h = absurd h
 named_base (Some (base value constraints)) h = refl
-named_base (Some (view t history)) h = absurd h
+named_base (Some (view t kind)) h = absurd h
 named_base (Some (log of side last w)) h = absurd h
 
 pub heading_named : (all : Entries) (n : Option Name) (other : Option Relation) → other ≡ value_at all n → NamesBase all n → heading_at all n ≡ heading_or_none other
@@ -31,7 +31,7 @@ heading_named all (Some name) other e h = sym (ap heading_or_none e ∙ named_ba
 some_base : (c : Constraint) (o : Option PlainRelvar) → IsBase o → ((v : Relation) → IsNamed c (Some v)) → IsNamed c (value_if o)
 some_base c None h f = absurd h
 some_base c (Some (base value constraints)) h f = f value
-some_base c (Some (view t history)) h f = absurd h
+some_base c (Some (view t kind)) h f = absurd h
 some_base c (Some (log of side last w)) h f = absurd h
 
 pub is_named : (all : Entries) (c : Constraint) (other : Option Relation) → other ≡ value_at all (names_relvar c) → NamesBase all (names_relvar c) → IsNamed c other

@@ -26,7 +26,7 @@ use Rattle.assign_core.proofs.NameLemmas.{distinct_earlier, names_more}
 abbrev pub added : PlainDeclaration → Entries
 added (ordinal_type name values) = []
 added (base_relvar name heading constraints) = (name, base (record { heading = heading; rows = [] }) constraints) ∷ []
-added (view_relvar name t history) = (name, view t history) ∷ []
+added (view_relvar name t kind) = (name, view t kind) ∷ []
 
 abbrev pub all_added : List PlainDeclaration → Entries
 all_added [] = []
@@ -43,7 +43,7 @@ in_turn (x ∷ xs) ys zs = ap (λ (z : Entries). x ∷ z) (in_turn xs ys zs)
 with_added : (s : State) (d : PlainDeclaration) → (with_declaration s d).relvars ≡ s.relvars ++ added d
 with_added s (ordinal_type name values) = no_more s.relvars
 with_added s (base_relvar name heading constraints) = refl
-with_added s (view_relvar name t history) = refl
+with_added s (view_relvar name t kind) = refl
 
 pub declared_added : (s : State) (ds : List PlainDeclaration) → (declared s ds).relvars ≡ s.relvars ++ all_added ds
 declared_added s [] = no_more s.relvars
@@ -81,7 +81,7 @@ empty_both (x ∷ xs) ys h k = (h.0, empty_both xs ys h.1 k)
 added_empty : (d : PlainDeclaration) → AreEmpty (added d)
 added_empty (ordinal_type name values) = tt
 added_empty (base_relvar name heading constraints) = (refl, tt)
-added_empty (view_relvar name t history) = (refl, tt)
+added_empty (view_relvar name t kind) = (refl, tt)
 
 all_empty : (ds : List PlainDeclaration) → AreEmpty (all_added ds)
 all_empty [] = tt
@@ -132,7 +132,7 @@ same_of all other name rows n (c ∷ cs) same =
 
 same_in : (all other : Entries) (name : Name) (r : PlainRelvar) → ((c : Constraint) → rows_named all c ≡ rows_named other c) → first_in all name r ≡ first_in other name r
 same_in all other name (base value constraints) same = same_of all other name value.rows 1 constraints (each_same all other same constraints)
-same_in all other name (view t history) same = refl
+same_in all other name (view t kind) same = refl
 same_in all other name (log of side last w) same = refl
 
 pub same_among : (all other es : Entries) → ((c : Constraint) → rows_named all c ≡ rows_named other c) → first_among all es ≡ first_among other es
@@ -161,7 +161,7 @@ none_of all name rows n (c ∷ cs) e =
 
 none_in : (all : Entries) (name : Name) (r : PlainRelvar) → rows_or_none (value_of r) ≡ [] → first_in all name r ≡ None
 none_in all name (base value constraints) e = none_of all name value.rows 1 constraints e
-none_in all name (view t history) e = refl
+none_in all name (view t kind) e = refl
 none_in all name (log of side last w) e = refl
 
 none_in_empty : (all more : Entries) → AreEmpty more → first_among all more ≡ None
@@ -192,7 +192,7 @@ same_rules s (d ∷ ds) = same_rules (with_declaration s d) ds ∙ one s d
     one : (t : State) (e : PlainDeclaration) → (with_declaration t e).rules ≡ t.rules
     one t (ordinal_type name values) = refl
     one t (base_relvar name heading constraints) = refl
-    one t (view_relvar name v history) = refl
+    one t (view_relvar name v kind) = refl
 
 -- what is declared behind is named by no database constraint
 pub rules_stay : (sizes : List ℕ) (es more : Entries) (rs : Rules) → All (λ r. IsTypedTest sizes (headings_of es) r.1) rs → All (λ r. holds_in es r.1 ≡ true) rs

@@ -117,7 +117,7 @@ replaced_elsewhere (c ∷ cs) es i others = (λ same. others.0 (sym (replaced_pl
 value_back : (es : Entries) (i : ℕ) (value : Relation) → turned_at i (with_value (value_there i value es)) (turned_at i (with_value value) es) ≡ es
 value_back [] i value = refl
 value_back ((n, base old constraints) ∷ es) zero value = refl
-value_back ((n, view t history) ∷ es) zero value = refl
+value_back ((n, view t kind) ∷ es) zero value = refl
 value_back ((n, log of side last w) ∷ es) zero value = refl
 value_back (e ∷ es) (suc i) value = ap (λ (z : Entries). e ∷ z) (value_back es i value)
 
@@ -133,7 +133,7 @@ taken_back (Rows i rows ∷ cs) es h v = absurd v
 so_value : (es : Entries) (i : ℕ) (value : Relation) → IsSoAt i (IsChange (Some value)) es → IsSoAt i (λ r. IsChange (Some (value_there i value es)) (with_value value r)) es
 so_value [] i value h = absurd h
 so_value ((n, base old constraints) ∷ es) zero value h = sym h
-so_value ((n, view t history) ∷ es) zero value h = absurd h
+so_value ((n, view t kind) ∷ es) zero value h = absurd h
 so_value ((n, log of side last w) ∷ es) zero value h = absurd h
 so_value (e ∷ es) (suc i) value h = so_value es i value h
 

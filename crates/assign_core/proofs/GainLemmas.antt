@@ -145,7 +145,7 @@ module _ (n : ℤ) (es : Entries) (name : Name) (i : ℕ) (v : Relation) (cs : L
 
   one : (r : PlainRelvar) → IsInStep n es r → IsOfBase es r → (is_log_of name r ≡ true → log_count r + more ≤ most_rows) → IsChangeOf n all name come gone r
   one (base value constraints) step owner few = tt
-  one (view t history) step owner few = tt
+  one (view t kind) step owner few = tt
   one (log of side last value) step owner few =
       (λ e. changing of side last value (same_name of name e) step owner (few e), λ e. (step.0, step.1 ∙ sym (ap base_rows (named_other es name of w e))))
 
@@ -165,7 +165,7 @@ module _ (n : ℤ) (es : Entries) (name : Name) (i : ℕ) (v : Relation) (cs : L
     where
       by : (b : Bool) (q : PlainRelvar) → IsChangeOf n all name come gone q → IsChangeOf n all name come gone (cond b (with_value w q) q)
       by true (base value constraints) k = tt
-      by true (view t history) k = tt
+      by true (view t kind) k = tt
       by true (log of side last value) k = k
       by false q k = k
 
@@ -190,7 +190,7 @@ module _ (name own : Name) (w : Relation) where
     where
       by : (b : Bool) (r : PlainRelvar) → is_log_of name (cond b (with_value w r) r) ≡ is_log_of name r
       by true (base value constraints) = refl
-      by true (view t history) = refl
+      by true (view t kind) = refl
       by true (log of side last value) = refl
       by false r = refl
 
@@ -199,7 +199,7 @@ module _ (name own : Name) (w : Relation) where
     where
       by : (b : Bool) (r : PlainRelvar) → log_count (cond b (with_value w r) r) ≡ log_count r
       by true (base value constraints) = refl
-      by true (view t history) = refl
+      by true (view t kind) = refl
       by true (log of side last value) = refl
       by false r = refl
 
@@ -238,7 +238,7 @@ module _ (name own : Name) (w : Relation) where
     where
       by : (b : Bool) (r : PlainRelvar) → HasEnded r → HasEnded (cond b (with_value w r) r)
       by true (base value constraints) k = tt
-      by true (view t history) k = tt
+      by true (view t kind) k = tt
       by true (log of side last value) k = k
       by false r k = k
 

@@ -109,7 +109,7 @@ rows_long r rows heading is same headed i d l =
 
 none_in : (r : PlainRelvar) → AreHashesIn [] r
 none_in (base value constraints) = All-nil (IsHashesOf value.heading value.rows)
-none_in (view t history) = tt
+none_in (view t kind) = tt
 none_in (log of side last w) = tt
 
 pub none_hashed : (i : ℕ) (es : Entries) → AreHashesAt i [] es

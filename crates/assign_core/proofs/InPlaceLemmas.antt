@@ -66,7 +66,7 @@ module _ (h : Held) (x : Exchange) where
 
   held_one : (n : ℤ) (all : Entries) (e r : PlainRelvar) → IsHeldOf h x e → IsOnTheWay n all e r → r ≡ e
   held_one n all (base value constraints) r held way = elim way [ inl p ↦ p.0 | inr b ↦ b.is ]
-  held_one n all (view t history) r held way = absurd held
+  held_one n all (view t kind) r held way = absurd held
   held_one n all (log of side last w) r held way = absurd held
 
   pub held_passed : (n : ℤ) (all es now : Entries) (i : ℕ) → ArePassed n all zero es now → IsSoAt i (IsHeldOf h x) es → IsSoAt i (IsHeldOf h x) now
@@ -77,7 +77,7 @@ module _ (h : Held) (x : Exchange) where
 
   turned_way : (n : ℤ) (all : Entries) (e r : PlainRelvar) → IsHeldOf h x e → IsOnTheWay n all e r → IsOnTheWay n all (comes e) (comes r)
   turned_way n all (base value constraints) r held way = inl (ap comes (held_one n all (base value constraints) r held way), tt)
-  turned_way n all (view t history) r held way = absurd held
+  turned_way n all (view t kind) r held way = absurd held
   turned_way n all (log of side last w) r held way = absurd held
 
   passed_turned : (n : ℤ) (all es now : Entries) (i : ℕ) → ArePassed n all zero es now → IsSoAt i (IsHeldOf h x) es → ArePassed n all zero (turned_at i comes es) (turned_at i comes now)
@@ -98,7 +98,7 @@ module _ (h : Held) (x : Exchange) where
   -- the log of the relvar is to change also while its rows are held
   refilled_change : (n : ℤ) (all : Entries) (name : Name) (come gone : Relation) (r : PlainRelvar) → IsChangeOf n all name come gone (refilled_relvar h r) → IsChangeOf n all name come gone r
   refilled_change n all name come gone (base value constraints) k = tt
-  refilled_change n all name come gone (view t history) k = tt
+  refilled_change n all name come gone (view t kind) k = tt
   refilled_change n all name come gone (log of side last w) k = k
 
   changing_held : (n : ℤ) (all : Entries) (name : Name) (come gone : Relation) (es : Entries) (i : ℕ) → AreChanging n all name come gone (turned_at i (refilled_relvar h) es) → AreChanging n all name come gone es
@@ -116,7 +116,7 @@ module _ (h : Held) (x : Exchange) where
 
   refilled_log : (name : Name) (r : PlainRelvar) → is_log_of name (refilled_relvar h r) ≡ is_log_of name r
   refilled_log name (base value constraints) = refl
-  refilled_log name (view t history) = refl
+  refilled_log name (view t kind) = refl
   refilled_log name (log of side last w) = refl
 
   logs_held : (name : Name) (es : Entries) (i : ℕ) → length (logs_of name (turned_at i (refilled_relvar h) es)) ≡ length (logs_of name es)
@@ -145,7 +145,7 @@ module _ (h : Held) (x : Exchange) where
 
 hashes_one : (n : ℤ) (all : Entries) (ms : List HashList) (e r : PlainRelvar) → IsOnTheWay n all e r → AreHashesIn ms e → AreHashesIn ms r
 hashes_one n all ms (base value constraints) r way k = subst (AreHashesIn ms) (sym (elim way [ inl p ↦ p.0 | inr b ↦ b.is ])) k
-hashes_one n all ms (view t history) r way k = subst (AreHashesIn ms) (sym (elim way [ inl p ↦ p.0 | inr b ↦ b.is ])) tt
+hashes_one n all ms (view t kind) r way k = subst (AreHashesIn ms) (sym (elim way [ inl p ↦ p.0 | inr b ↦ b.is ])) tt
 hashes_one n all ms (log of side last w) r way k = elim way [
   | inl p ↦ subst (AreHashesIn ms) (sym p.0) tt
   | inr b ↦ subst (AreHashesIn ms) (sym b.is) tt
@@ -163,7 +163,7 @@ hashed_passed n all m es now are h k d l = hashes_passed n all _ _ es now are (h
 
 hashes_back : (n : ℤ) (all : Entries) (ms : List HashList) (e r : PlainRelvar) → IsOnTheWay n all e r → AreHashesIn ms r → AreHashesIn ms e
 hashes_back n all ms (base value constraints) r way k = subst (AreHashesIn ms) (elim way [ inl p ↦ p.0 | inr b ↦ b.is ]) k
-hashes_back n all ms (view t history) r way k = tt
+hashes_back n all ms (view t kind) r way k = tt
 hashes_back n all ms (log of side last w) r way k = tt
 
 hashes_before : (n : ℤ) (all : Entries) (i : ℕ) (ms : List HashList) (es now : Entries) → ArePassed n all zero es now → AreHashesAt i ms now → AreHashesAt i ms es

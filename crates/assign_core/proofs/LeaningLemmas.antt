@@ -132,7 +132,7 @@ ready_alike r es = list_alike r.changes.items es
 
 view_same : (names : List Name) (k l : Known) (r : PlainRelvar) → Agree names k l → is_view_of names r ≡ false → relvar_meaning k r ≡ relvar_meaning l r
 view_same names k l (base value constraints) agree none = refl
-view_same names k l (view t history) agree none = meaning-agrees (is_one_of names) k l (agree_found names k l agree) plainly t none
+view_same names k l (view t kind) agree none = meaning-agrees (is_one_of names) k l (agree_found names k l agree) plainly t none
 view_same names k l (log of side last w) agree none = refl
 
 module _ (r : Ready) where

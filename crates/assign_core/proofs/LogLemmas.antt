@@ -63,7 +63,7 @@ module _ (all : Entries) where
 
   value-one : (r : PlainRelvar) → value_of (turned_relvar all r) ≡ value_of r
   value-one (base value constraints) = refl
-  value-one (view t history) = refl
+  value-one (view t kind) = refl
   value-one (log of side last w) = refl
 
   value-turned : (es : Entries) (name : Name) → value_if (relvar_named (turned es) name) ≡ value_if (relvar_named es name)
@@ -85,7 +85,7 @@ module _ (all : Entries) where
     where
       first-one : (r : PlainRelvar) → first_in other e.0 (turned_relvar all r) ≡ first_in other e.0 r
       first-one (base value constraints) = refl
-      first-one (view t history) = refl
+      first-one (view t kind) = refl
       first-one (log of side last w) = refl
 
 named-turned : (es : Entries) (c : Constraint) → rows_named (turned_logs es) c ≡ rows_named es c
@@ -129,7 +129,7 @@ log_kept s d kept made =
 
 bare-log : (r : PlainRelvar) → is_log (bare r) ≡ is_log r
 bare-log (base value constraints) = refl
-bare-log (view t history) = refl
+bare-log (view t kind) = refl
 bare-log (log of side last w) = refl
 
 bare-logs : (es : Entries) → has_log (bare_all es) ≡ has_log es
@@ -145,7 +145,7 @@ alone_counted s none = λ i. record s { relvars = turned-none s.relvars none i; 
 
 step-none : (n : ℤ) (all : Entries) (r : PlainRelvar) → is_log r ≡ false → IsInStep n all r
 step-none n all (base value constraints) none = tt
-step-none n all (view t history) none = tt
+step-none n all (view t kind) none = tt
 step-none n all (log of side last w) none = absurd (true≢false none)
 
 -- entries without a log are in step with any others
@@ -162,7 +162,7 @@ given-log (Some name) (Some value) e = by (bytes_eq e.0 name) e.1
   where
     by : (b : Bool) (r : PlainRelvar) → is_log (cond b (with_value value r) r) ≡ is_log r
     by true (base old constraints) = refl
-    by true (view t history) = refl
+    by true (view t kind) = refl
     by true (log of side last w) = refl
     by false r = refl
 
@@ -191,7 +191,7 @@ no-rows (e ∷ es) none =
   where
     no-rows-one : (r : PlainRelvar) → is_log r ≡ false → (log_count r ≡ 0) × (nat_le (log_count r) most_rows ≡ true)
     no-rows-one (base value constraints) h = (refl, refl)
-    no-rows-one (view t history) h = (refl, refl)
+    no-rows-one (view t kind) h = (refl, refl)
     no-rows-one (log of side last w) h = absurd (true≢false h)
 
 room-alone : (es : Entries) → has_log es ≡ false → have_room (turned_logs es) ≡ nat_le (rows_of_all es) most_rows_in_all
@@ -273,7 +273,7 @@ refused_full refuse s list h = by (evaluated s.relvars s.relvars list) (after_as
 next-one : (n : ℤ) (all : Entries) (t : Option PlainLog) (c : Option Relation) (r : PlainRelvar) → IsNext n all t r → IsNext n all t (changed_relvar c r)
 next-one n all t None r h = h
 next-one n all t (Some value) (base old constraints) h = tt
-next-one n all t (Some value) (view t' history) h = tt
+next-one n all t (Some value) (view t' kind) h = tt
 next-one n all t (Some value) (log of side last w) h = h
 
 pub next_changed : (n : ℤ) (all : Entries) (ts : List (Option PlainLog)) (cs : Changes) (es : Entries) → AreNext n all ts es → AreNext n all ts (changed cs es)
@@ -286,7 +286,7 @@ next_changed n all (t ∷ ts) (c ∷ cs) (e ∷ es) h = (next-one n all t c e.1 
 count-one : (all : Entries) (c : Option Relation) (r : PlainRelvar) → log_count (turned_relvar all (changed_relvar c r)) ≡ log_count (turned_relvar all r)
 count-one all None r = refl
 count-one all (Some value) (base old constraints) = refl
-count-one all (Some value) (view t history) = refl
+count-one all (Some value) (view t kind) = refl
 count-one all (Some value) (log of side last w) = refl
 
 -- new values have nothing to do with the rows of logs
@@ -398,7 +398,7 @@ hashes-turned all zero ms (e ∷ es) h = one e.1 h
   where
     one : (r : PlainRelvar) → AreHashesIn ms r → AreHashesIn ms (turned_relvar all r)
     one (base value constraints) k = k
-    one (view t history) k = tt
+    one (view t kind) k = tt
     one (log of side last w) k = tt
 hashes-turned all (suc i) ms (e ∷ es) h = hashes-turned all i ms es h
 
@@ -431,7 +431,7 @@ none_ready n all (e ∷ es) h = (one e.1 (All-head (λ r. IsInStep n all r.1) e 
   where
     one : (r : PlainRelvar) → IsInStep n all r → IsNext n all None r
     one (base value constraints) k = tt
-    one (view t history) k = tt
+    one (view t kind) k = tt
     one (log of side last w) k = k
 
 -- ---- a log that is opened

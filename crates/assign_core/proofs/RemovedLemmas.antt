@@ -32,7 +32,7 @@ AreFitting entries r (c ∷ cs) = IsFitting entries r c × AreFitting entries r 
 
 abbrev pub constraints_of : PlainRelvar → List Constraint
 constraints_of (base value constraints) = constraints
-constraints_of (view t history) = []
+constraints_of (view t kind) = []
 constraints_of (log of side last w) = []
 
 abbrev pub AllFit : Entries → Entries → Type 0
@@ -74,7 +74,7 @@ each_fits before rest own r (c ∷ cs) h = (one_fits before rest own r c (All-he
 relvar_fits : (sizes : List ℕ) (before rest : Entries) (own : Name) (r : PlainRelvar) → IsRelvar sizes before own r
     → AreFitting ((before ++ (own, r) ∷ []) ++ rest) r (constraints_of r)
 relvar_fits sizes before rest own (base value constraints) h = each_fits before rest own (base value constraints) constraints h.1
-relvar_fits sizes before rest own (view t history) h = tt
+relvar_fits sizes before rest own (view t kind) h = tt
 relvar_fits sizes before rest own (log of side last w) h = tt
 
 fit_after : (sizes : List ℕ) (before es all : Entries) → all ≡ before ++ es → AreRelvars sizes before es → AllFit all es
@@ -140,7 +140,7 @@ module _ (names : List Name) where
 
   same_in : (all : Entries) (own : Name) (r : PlainRelvar) → AreFitting (left all) r (constraints_of r) → first_in (left all) own r ≡ first_in all own r
   same_in all own (base value constraints) h = same_of (left all) all own value.rows 1 constraints (same_each all (base value constraints) constraints h)
-  same_in all own (view t history) h = refl
+  same_in all own (view t kind) h = refl
   same_in all own (log of side last w) h = refl
 
   none_left : (all es : Entries) → AllFit (left all) (left es) → first_among all es ≡ None → first_among (left all) (left es) ≡ None

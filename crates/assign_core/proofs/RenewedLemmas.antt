@@ -27,10 +27,10 @@ use Rattle.assign_core.proofs.ExchangeLemmas.{so_exchanged}
 
 bare_change : (c : Change) (r : PlainRelvar) → MayTurn c r → bare (turned c r) ≡ bare r
 bare_change (Value at value) (base old constraints) h = bare-with_value value (base old constraints) h
-bare_change (Value at value) (view t history) h = absurd h
+bare_change (Value at value) (view t kind) h = absurd h
 bare_change (Value at value) (log of side last w) h = absurd h
 bare_change (Rows at rows) (base old constraints) h = refl
-bare_change (Rows at rows) (view t history) h = absurd h
+bare_change (Rows at rows) (view t kind) h = absurd h
 bare_change (Rows at rows) (log of side last w) h = absurd h
 
 bare_turned : (es : Entries) (i : ℕ) (c : Change) → IsSoAt i (MayTurn c) es → bare_all (turned_at i (turned c) es) ≡ bare_all es

@@ -29,7 +29,7 @@ use Rattle.assign_core.proofs.LogLemmas.{alone_in_step}
 module _ (n : ℤ) (known old new : Entries) (same : (name : Name) → IsBase (relvar_named known name) → base_rows (relvar_named new name) ≡ base_rows (relvar_named old name)) where
   one-step : (r : PlainRelvar) → IsOfBase known r → IsInStep n old r → IsInStep n new r
   one-step (base value constraints) of h = tt
-  one-step (view t history) of h = tt
+  one-step (view t kind) of h = tt
   one-step (log name side last value) of h = (h.0, h.1 ∙ sym (same name of.0))
 
   step-there : (es : Entries) (i : ℕ) → IsSoAt i (IsOfBase known) es → IsSoAt i (IsInStep n old) es → IsSoAt i (IsInStep n new) es
@@ -88,7 +88,7 @@ no-logs : (ds : List PlainDeclaration) → has_log (all_added ds) ≡ false
 no-logs [] = refl
 no-logs (ordinal_type name values ∷ ds) = no-logs ds
 no-logs (base_relvar name heading constraints ∷ ds) = no-logs ds
-no-logs (view_relvar name t history ∷ ds) = no-logs ds
+no-logs (view_relvar name t kind ∷ ds) = no-logs ds
 
 same-number : (s : State) (ds : List PlainDeclaration) → (declared s ds).accepted ≡ s.accepted
 same-number s [] = refl
@@ -97,7 +97,7 @@ same-number s (d ∷ ds) = same-number (with_declaration s d) ds ∙ one d
     one : (e : PlainDeclaration) → (with_declaration s e).accepted ≡ s.accepted
     one (ordinal_type name values) = refl
     one (base_relvar name heading constraints) = refl
-    one (view_relvar name t history) = refl
+    one (view_relvar name t kind) = refl
 
 -- the logs of a state are in step
 abbrev pub IsStepped : State → Type 0

@@ -17,7 +17,7 @@ use Rattle.u_constraints.specs.Constraints.{broken, names_relvar, rows_or_none}
 -- the value of a base relvar
 abbrev pub value_of : PlainRelvar → Option Relation
 value_of (base value constraints) = Some value
-value_of (view t history) = None
+value_of (view t kind) = None
 value_of (log of side last w) = None
 
 -- the value of a base relvar, if there is one
@@ -58,7 +58,7 @@ first_of entries name rows n (c ∷ rest) = or_later (breach entries name rows n
 
 abbrev pub first_in : Entries → Name → PlainRelvar → Option Refuse
 first_in entries name (base value constraints) = first_of entries name value.rows 1 constraints
-first_in entries name (view t history) = None
+first_in entries name (view t kind) = None
 first_in entries name (log of side last w) = None
 
 -- the first broken one among those of some relvars

@@ -19,7 +19,7 @@ Tells (Err Memory) meant = Unit {0}
 -- the value of a base relvar; other, of a view
 abbrev pub value_or : Relation → PlainRelvar → Relation
 value_or other (base value constraints) = value
-value_or other (view t history) = other
+value_or other (view t kind) = other
 value_or other (log of side last w) = other
 
 -- ---- one place

@@ -30,7 +30,7 @@ pub record IsChecked (entries : Entries) (heading : Heading) (c : Constraint) : 
 
 abbrev pub AreChecked : Entries → PlainRelvar → Type 0
 AreChecked entries (base value constraints) = All (IsChecked entries value.heading) constraints
-AreChecked entries (view t history) = Unit {0}
+AreChecked entries (view t kind) = Unit {0}
 AreChecked entries (log of side last w) = Unit {0}
 
 abbrev pub AllChecked : Entries → Entries → Type 0

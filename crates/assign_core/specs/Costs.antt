@@ -55,7 +55,7 @@ looked_at entries rows (c ∷ rest) =
 
 abbrev pub looked_at_in : Entries → PlainRelvar → ℕ
 looked_at_in entries (base value constraints) = looked_at entries value.rows constraints
-looked_at_in entries (view t history) = 0
+looked_at_in entries (view t kind) = 0
 looked_at_in entries (log of side last w) = 0
 
 -- the steps of the constraints of some relvars, up to and with the first broken one

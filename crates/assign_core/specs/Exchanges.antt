@@ -98,7 +98,7 @@ refilled h value = record { heading = value.heading; rows = drop h.empty h.rows.
 
 abbrev pub refilled_relvar : Held → PlainRelvar → PlainRelvar
 refilled_relvar h (base value constraints) = base (refilled h value) constraints
-refilled_relvar h (view t history) = view t history
+refilled_relvar h (view t kind) = view t kind
 refilled_relvar h (log of side last w) = log of side last w
 
 -- the rows are those of the relation that is left, with their hashes, and there is room for those that come
@@ -111,7 +111,7 @@ pub record IsHeld (value : Relation) (h : Held) (x : Exchange) : Type 0 where
 
 abbrev pub IsHeldOf : Held → Exchange → PlainRelvar → Type 0
 IsHeldOf h x (base value constraints) = IsHeld value h x
-IsHeldOf h x (view t history) = ⊥
+IsHeldOf h x (view t kind) = ⊥
 IsHeldOf h x (log of side last w) = ⊥
 
 -- the same for any change: for a new value nothing is held

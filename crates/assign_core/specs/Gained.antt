@@ -13,7 +13,7 @@ use Rattle.assign_core.specs.NewRows.{joining}
 
 abbrev pub less : Relation → PlainRelvar → PlainRelvar
 less come (base value constraints) = base (record { heading = value.heading; rows = subtracted value.rows come.rows }) constraints
-less come (view t history) = view t history
+less come (view t kind) = view t kind
 less come (log of side last value) = log of side last value
 
 -- the rows may be added to the base relvar of the name, which stands at the place: so many rows more fit in any case

@@ -19,7 +19,7 @@ pub record IsHashesOf (heading : Heading) (rows : List Row) (m : HashList) : Typ
 -- of a view nothing is asked: it has no rows of its own
 abbrev pub AreHashesIn : List HashList → PlainRelvar → Type 0
 AreHashesIn ms (base value constraints) = All (IsHashesOf value.heading value.rows) ms
-AreHashesIn ms (view t history) = Unit {0}
+AreHashesIn ms (view t kind) = Unit {0}
 AreHashesIn ms (log of side last w) = Unit {0}
 
 -- of the relvar at the place

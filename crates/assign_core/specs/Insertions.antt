@@ -115,7 +115,7 @@ keeps_packed commalist _ = false
 -- whether one of those of a base relvar does
 abbrev pub is_kept_packed : List ℕ → PlainRelvar → Bool
 is_kept_packed commalist (base value constraints) = list_any (keeps_packed commalist) constraints
-is_kept_packed commalist (view t history) = false
+is_kept_packed commalist (view t kind) = false
 is_kept_packed commalist (log of side last w) = false
 
 -- the rows are added under the list, and the target is packed on it

@@ -22,7 +22,7 @@ is_ready_at r i = list_any (λ c. nat_eq (place_of c) i) r.changes.items
 -- whether it is a view that names one of these
 abbrev pub is_view_of : List Name → PlainRelvar → Bool
 is_view_of names (base value constraints) = false
-is_view_of names (view t history) = names_any (is_one_of names) t
+is_view_of names (view t kind) = names_any (is_one_of names) t
 is_view_of names (log of side last w) = false
 
 -- whether the relvar at the place has something ready, or is a view of affected ones

@@ -25,7 +25,7 @@ renewed value x = record { heading = value.heading; rows = exchanged value.rows 
 
 abbrev pub renewed_relvar : Exchange → PlainRelvar → PlainRelvar
 renewed_relvar x (base value constraints) = base (renewed value x) constraints
-renewed_relvar x (view t history) = view t history
+renewed_relvar x (view t kind) = view t kind
 renewed_relvar x (log of side last w) = log of side last w
 
 -- the relvars after an exchange of rows of the one at a place
@@ -35,7 +35,7 @@ renewed_at i x entries = turned_at i (renewed_relvar x) entries
 -- what is asked where rows are put among those of a relvar: they have its heading, and are few enough with its own
 abbrev pub MayExchange : Exchange → PlainRelvar → Type 0
 MayExchange x (base value constraints) = (x.come.heading ≡ value.heading) × (length (united value.rows x.come.rows) ≤ most_rows)
-MayExchange x (view t history) = ⊥
+MayExchange x (view t kind) = ⊥
 MayExchange x (log of side last w) = ⊥
 
 -- the same of the relvar at a place

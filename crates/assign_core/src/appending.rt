@@ -10,7 +10,7 @@ ghost use Rattle.assign_core.specs.Parts.{names_in, Begins};
 
 use point_core::Memory;
 use std::alloc::Global;
-use tree_core::{Declaration, RelTest, Relvar, Relvars};
+use tree_core::{Declaration, RelTest, Relvar, Relvars, ViewKind};
 use value_core::{Heading, Name, OrdinalNames, Relation};
 
 /// Appends what is declared, in the order of the list. For want of memory, what was there stays in front.
@@ -42,8 +42,8 @@ fn append(alloc: Global, relvars: &mut Relvars, declaration: Declaration) -> Res
             append_relvar(relvars, name, Relvar::Base { value, constraints })
         }
         Declaration::View(name, tree) => {
-            let history = None;
-            append_relvar(relvars, name, Relvar::View { tree, history })
+            let kind = ViewKind::Derived;
+            append_relvar(relvars, name, Relvar::View { tree, kind })
         }
         Declaration::HistoryView {
             view,
@@ -51,8 +51,8 @@ fn append(alloc: Global, relvars: &mut Relvars, declaration: Declaration) -> Res
             since,
             during,
         } => {
-            let history = Some((since, during));
-            append_relvar(relvars, view, Relvar::View { tree, history })
+            let kind = ViewKind::OfHistory((since, during));
+            append_relvar(relvars, view, Relvar::View { tree, kind })
         }
     }
 }

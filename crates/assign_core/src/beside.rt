@@ -72,10 +72,7 @@ fn has_log_of(relvars: &Relvars, name: &Name) -> bool
                 value: _,
                 constraints: _,
             } => (),
-            Relvar::View {
-                tree: _,
-                history: _,
-            } => (),
+            Relvar::View { tree: _, kind: _ } => (),
         }
     }
     false

@@ -51,10 +51,7 @@ pub(crate) fn newest_of<'a>(
             value,
             constraints: _,
         } => Some(newer(change, value)),
-        Relvar::View {
-            tree: _,
-            history: _,
-        } => None,
+        Relvar::View { tree: _, kind: _ } => None,
         Relvar::Log { of: _, log: _ } => None,
     }
 }
@@ -68,10 +65,7 @@ pub(crate) fn value_of(relvar: &Relvar) -> Option<&Relation>
             value,
             constraints: _,
         } => Some(value),
-        Relvar::View {
-            tree: _,
-            history: _,
-        } => None,
+        Relvar::View { tree: _, kind: _ } => None,
         Relvar::Log { of: _, log: _ } => None,
     }
 }

@@ -97,10 +97,7 @@ fn check_relvar<L: Ledger>(
             };
             check_list(alloc, new, name, own, constraints.list.as_slice(), steps)
         }
-        Relvar::View {
-            tree: _,
-            history: _,
-        } => Ok(()),
+        Relvar::View { tree: _, kind: _ } => Ok(()),
         Relvar::Log { of: _, log: _ } => Ok(()),
     }
 }

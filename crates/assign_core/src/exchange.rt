@@ -249,10 +249,7 @@ fn hold_of(
             value,
             constraints: _,
         } => hold(value, alloc, hashes, rows),
-        Relvar::View {
-            tree: _,
-            history: _,
-        } => unreachable!(),
+        Relvar::View { tree: _, kind: _ } => unreachable!(),
         Relvar::Log { of: _, log: _ } => unreachable!(),
     }
 }
@@ -300,10 +297,7 @@ fn let_in_of(
             value,
             constraints: _,
         } => let_in(value, alloc, held, rows),
-        Relvar::View {
-            tree: _,
-            history: _,
-        } => unreachable!(),
+        Relvar::View { tree: _, kind: _ } => unreachable!(),
         Relvar::Log { of: _, log: _ } => unreachable!(),
     }
 }
@@ -340,10 +334,7 @@ fn put_back_of(relvar: &mut Relvar, held: Held, rows: &Exchange)
             value,
             constraints: _,
         } => put_back(value, held, rows),
-        Relvar::View {
-            tree: _,
-            history: _,
-        } => drop(held),
+        Relvar::View { tree: _, kind: _ } => drop(held),
         Relvar::Log { of: _, log: _ } => drop(held),
     }
 }

@@ -67,10 +67,7 @@ fn fill_relvar(alloc: Global, relvar: &Relvar, hashes: &mut Vec<Hashes>) -> Resu
         Relvar::Base { value, constraints } => {
             fill_value(alloc, value, constraints.list.as_slice(), hashes)
         }
-        Relvar::View {
-            tree: _,
-            history: _,
-        } => Ok(()),
+        Relvar::View { tree: _, kind: _ } => Ok(()),
         Relvar::Log { of: _, log: _ } => Ok(()),
     }
 }

@@ -155,10 +155,7 @@ fn take_from(alloc: Global, relvar: &mut Relvar, come: &Relation)
             value,
             constraints: _,
         } => remove(value, alloc, come),
-        Relvar::View {
-            tree: _,
-            history: _,
-        } => (),
+        Relvar::View { tree: _, kind: _ } => (),
         Relvar::Log { of: _, log: _ } => (),
     }
 }

@@ -137,16 +137,7 @@ pub(crate) fn base_at<'a>(relvars: &'a Relvars, assignment: &Assignment) -> (usi
                 },
             ),
         ) => (at, value),
-        Some(
-            (
-                _,
-                _,
-                Relvar::View {
-                    tree: _,
-                    history: _,
-                },
-            ),
-        ) => unreachable!(),
+        Some((_, _, Relvar::View { tree: _, kind: _ })) => unreachable!(),
         Some((_, _, Relvar::Log { of: _, log: _ })) => unreachable!(),
         None => unreachable!(),
     }

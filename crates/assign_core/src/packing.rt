@@ -58,10 +58,7 @@ pub(crate) fn is_kept_packed(relvar: &Relvar, commalist: &Positions) -> bool
             value: _,
             constraints,
         } => keep_packed(constraints.list.as_slice(), commalist),
-        Relvar::View {
-            tree: _,
-            history: _,
-        } => false,
+        Relvar::View { tree: _, kind: _ } => false,
         Relvar::Log { of: _, log: _ } => false,
     }
 }

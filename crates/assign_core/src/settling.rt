@@ -167,10 +167,7 @@ fn new_value(alloc: Global, relvar: &Relvar, rows: &mut Exchange) -> Result<Rela
             drop(let_in(&mut new, alloc, held, rows));
             Ok(new)
         }
-        Relvar::View {
-            tree: _,
-            history: _,
-        } => unreachable!(),
+        Relvar::View { tree: _, kind: _ } => unreachable!(),
         Relvar::Log { of: _, log: _ } => unreachable!(),
     }
 }

@@ -134,10 +134,7 @@ fn check_relvar<L: Ledger>(
                 steps,
             )
         }
-        Relvar::View {
-            tree: _,
-            history: _,
-        } => Ok(()),
+        Relvar::View { tree: _, kind: _ } => Ok(()),
         Relvar::Log { of: _, log: _ } => Ok(()),
     }
 }

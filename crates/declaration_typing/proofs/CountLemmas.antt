@@ -54,7 +54,7 @@ count-capped known (using place h commalist t) = more-capped (count (map cap kno
 
 relvar-capped : (known : Known) (r : PlainRelvar) → capped_count (map cap known) r ≡ capped (relvar_count known r)
 relvar-capped known (base value constraints) = refl
-relvar-capped known (view t history) = count-capped known t
+relvar-capped known (view t kind) = count-capped known t
 relvar-capped known (log of side last value) = refl
 
 each-capped : (known : Known) (entries : Entries) → each_after capped_count (map cap known) entries ≡ map cap (each_after relvar_count known entries)

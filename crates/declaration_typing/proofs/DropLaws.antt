@@ -13,15 +13,15 @@ use Rattle.value_core.specs.declared.constraint.HistoryRule.{HistoryRule}
 use Rattle.value_core.specs.Values.{Name, Heading}
 use Rattle.scalar_typing.proofs.SoundLemmas.{then-sound, any-given}
 use Rattle.relation_typing.specs.Attributes.{name_typed}
-use Rattle.tree_core.specs.Relvars.{State, PlainRelvar, base, view, Entries, Rules, relvar_named, relvar_heading, heading_if, constraints_if, rule_among, log}
+use Rattle.tree_core.specs.Relvars.{State, PlainKind, derived, of_history, stored, PlainRelvar, base, view, Entries, Rules, relvar_named, relvar_heading, heading_if, constraints_if, rule_among, log}
 use Rattle.tree_core.specs.Trees.{Tree, named}
 use Rattle.tree_core.specs.Uses.{is_one_of, names_any, test_names_any, references_any, relvar_names_any}
 use Rattle.log_times.specs.Turns.{IsLogHeading, without}
 use Rattle.meaning_core.specs.Declarations.{group, without_group}
 use Rattle.meaning_core.specs.Histories.{joined_history, last_point, type_at, name_at}
 use Rattle.meaning_core.specs.Typing.{IsTypedTest}
-use Rattle.meaning_core.specs.WellMade.{sizes_of, headings_of, FitsHeadings, IsBase, IsConstraint, IsOfRule, IsHistory, IsRelvar, AreRelvars, IsWellMade, IsLogOf}
-use Rattle.meaning_core.proofs.ElsewhereLemmas.{left, left-kept, left-gone, left-append, named-left}
+use Rattle.meaning_core.specs.WellMade.{sizes_of, headings_of, FitsHeadings, IsBase, IsConstraint, IsOfRule, is_base, is_base_in, IsOfKind, IsRelvar, AreRelvars, IsWellMade, IsLogOf}
+use Rattle.meaning_core.proofs.ElsewhereLemmas.{names-alike, left, left-kept, left-gone, left-append, named-left}
 use Rattle.meaning_core.proofs.LogLemmas.{apart-dropped}
 use Rattle.meaning_core.proofs.StaysTyped.{tree-left, test-left}
 use Rattle.node_typing.specs.Positions.{check}
@@ -60,7 +60,7 @@ module _ (some : Name → Bool) where
   all-dropped before own r (c ∷ cs) other apart all (suc k) d l =
       all-dropped before own r cs other (or_parts (references_any some c) (list_any (references_any some) cs) apart).1 (λ i e m. all (suc i) e (omega (arith, m))) k d (omega (arith, l))
 
-  -- ---- views of histories
+  -- ---- views
 
   -- the view is of the rule, where its relvars are these
   abbrev OfRule : Name → Name → Tree → Option HistoryRule → Option PlainRelvar → Option PlainRelvar → Type 0
@@ -88,9 +88,13 @@ module _ (some : Name → Bool) where
   abbrev HistoryOf : Name → Name → Tree → Option PlainRelvar → Option PlainRelvar → Type 0
   HistoryOf s d t o p = IsBase o × IsBase p × OfRule s d t (rule_among (constraints_if p)) o p
 
-  history-dropped : (before : Entries) (t : Tree) (history : Option (Name × Name)) → names_any some t ≡ false → IsHistory before t history → IsHistory (left some before) t history
-  history-dropped before t None apart is = tt
-  history-dropped before t (Some names) apart is =
+  kind-dropped : (before : Entries) (t : Tree) (kind : PlainKind) → names_any some t ≡ false → IsOfKind before t kind → IsOfKind (left some before) t kind
+  kind-dropped before t derived apart is = tt
+  kind-dropped before t stored apart is =
+      let same = names-alike some (λ name. not (is_base_in (left some before) name)) (λ name. not (is_base_in before name))
+      (λ name none. ap (λ (o : Option PlainRelvar). not (is_base o)) (named-left some before name none)) t apart in
+      (is.0, same ∙ is.1)
+  kind-dropped before t (of_history names) apart is =
       let others = others-named before names.0 names.1 t (rule_among (constraints_if (relvar_named before names.1))) is.2 apart in
       let here : HistoryOf names.0 names.1 t (relvar_named before names.0) (relvar_named before names.1) =
       (is.0, is.1, of-rule before names.0 names.1 t (rule_among (constraints_if (relvar_named before names.1))) is.2) in
@@ -113,7 +117,7 @@ module _ (some : Name → Bool) where
   relvar-dropped : (sizes : List ℕ) (before : Entries) (own : Name) (r : PlainRelvar) → some own ≡ false → relvar_names_any some r ≡ false → IsRelvar sizes before own r
       → IsRelvar sizes (left some before) own r
   relvar-dropped sizes before own (base value constraints) other apart is = (is.0, all-dropped before own (base value constraints) constraints other apart is.1)
-  relvar-dropped sizes before own (view t history) other apart is = (tree-left sizes some before t apart is.0, history-dropped before t history apart is.1)
+  relvar-dropped sizes before own (view t kind) other apart is = (tree-left sizes some before t apart is.0, kind-dropped before t kind apart is.1)
   relvar-dropped sizes before own (log of side last value) other apart is = (is.0, log-dropped before of side value.heading apart is.1)
 
   named-not : (own : Name) (r : PlainRelvar) → some own ≡ false → (not (some own) && relvar_names_any some r) ≡ false → relvar_names_any some r ≡ false

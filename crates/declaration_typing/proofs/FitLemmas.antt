@@ -93,7 +93,7 @@ module _ (s : State) (own : Name) (heading : Heading) (others : List Constraint)
   found-base at name None e = tt
   found-base at name (Some (base value constraints)) e =
       subst (IsBaseOf value.heading) (sym (named_before s.relvars ((own, own_relvar) ∷ []) name (base value constraints) e)) (tt, refl)
-  found-base at name (Some (view t history)) e = tt
+  found-base at name (Some (view t kind)) e = tt
   found-base at name (Some (log of side last value)) e = tt
 
   own-base : (name : Name) → bytes_eq own name ≡ true → IsBaseOf heading (relvar_named with_own name)

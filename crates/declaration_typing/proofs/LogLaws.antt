@@ -43,7 +43,7 @@ base-declared sizes before ((own, r) ∷ rest) name are = by-test (bytes_eq own 
   where
     here : (x : PlainRelvar) → IsRelvar sizes before own x → IsBase (Some x) → IsTrue (is_declared sizes (heading_if (Some x)))
     here (base value constraints) one is = one.0
-    here (view t history) one is = absurd is
+    here (view t kind) one is = absurd is
     here (log of side last value) one is = absurd is
 
     by-test : (b : Bool) → (IsBase (relvar_named rest name) → IsTrue (is_declared sizes (heading_if (relvar_named rest name)))) → IsBase (cond b (Some r) (relvar_named rest name))
@@ -59,7 +59,7 @@ record IsSource (o : Option PlainRelvar) (heading : Heading) : Type 0 where
 source-is : (place : Place) (o : Option PlainRelvar) → IfOk (base_heading place o) (IsSource o)
 source-is place None = tt
 source-is place (Some (base value constraints)) = record { base = tt; same = refl }
-source-is place (Some (view t history)) = tt
+source-is place (Some (view t kind)) = tt
 source-is place (Some (log of side last value)) = tt
 
 -- ---- the log's heading

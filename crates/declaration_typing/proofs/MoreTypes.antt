@@ -113,7 +113,7 @@ module _ (sizes more : List ℕ) where
 
   relvar-more : (before : Entries) (own : _) (r : PlainRelvar) → IsRelvar sizes before own r → IsRelvar (sizes ++ more) before own r
   relvar-more before own (base value constraints) is = (declared-more value.heading is.0, is.1)
-  relvar-more before own (view t history) is = (tree-more (headings_of before) t is.0, is.1)
+  relvar-more before own (view t kind) is = (tree-more (headings_of before) t is.0, is.1)
   relvar-more before own (log of side last w) is = (declared-more w.heading is.0, is.1)
 
   pub relvars-more : (before entries : Entries) → AreRelvars sizes before entries → AreRelvars (sizes ++ more) before entries

@@ -80,7 +80,7 @@ one-more names known own b agree new name = by-test (bytes_eq own name) refl
 
 is-same : (names : List Name) (known : Known) (r : PlainRelvar) → Agree names known → is_over names r ≡ is_over_log known r
 is-same names known (base value constraints) agree = refl
-is-same names known (view t history) agree = λ i. names_any (λ name. agree name i) t
+is-same names known (view t kind) agree = λ i. names_any (λ name. agree name i) t
 is-same names known (log of side last value) agree = refl
 
 -- ---- all

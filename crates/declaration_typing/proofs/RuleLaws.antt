@@ -1,5 +1,5 @@
 -- What CONSTRAINT declares is typed, and it and DROP CONSTRAINT keep a state well made.
-use Rattle.std.specs.Prelude.{◌≡◌, ◌≤◌, ℕ, zero, suc, Bool, true, false, List, [], ◌∷◌, ◌++◌, filter, cond, map, length, nat_le, nat_lt, Ok, Err, IfOk, IsTrue}
+use Rattle.std.specs.Prelude.{◌≡◌, ◌≤◌, suc, Bool, true, false, List, [], ◌∷◌, ◌++◌, filter, cond, map, length, nat_le, nat_lt, Ok, Err, IfOk, IsTrue}
 use Rattle.std.proofs.Common.{arith, sym, ◌∙◌, ap, subst, append_assoc, not}
 use Rattle.std.specs.List.{All, IsDistinct}
 use Rattle.std.specs.Str.{bytes_eq}
@@ -29,7 +29,7 @@ use Rattle.declaration_typing.specs.Nodes.{test_nodes}
 use Rattle.declaration_typing.specs.Rules.{room_for_rule, rule_scope, rule_declared, rule_dropped}
 use Rattle.declaration_typing.proofs.DistinctLemmas.{distinct-between, distinct-left, all-push}
 use Rattle.declaration_typing.proofs.PositionLemmas.{held}
-use Rattle.declaration_typing.proofs.StateLemmas.{AreOther, other-both, others-from, IsFree, free-name}
+use Rattle.declaration_typing.proofs.StateLemmas.{other-both, others-from, IsFree, free-name}
 
 -- the names behind those of database constraints
 abbrev others_in : State → List Name

@@ -1,8 +1,8 @@
 -- What VAR VIRTUAL declares keeps a state well made.
-use Rattle.std.specs.Prelude.{None, IfOk}
+use Rattle.std.specs.Prelude.{IfOk}
 use Rattle.utd_syntax.specs.Plain.{Word, RelP}
 use Rattle.scalar_typing.proofs.SoundLemmas.{then-sound, any-given}
-use Rattle.tree_core.specs.Relvars.{State, view}
+use Rattle.tree_core.specs.Relvars.{State, derived, view}
 use Rattle.meaning_core.specs.Declarations.{PlainDeclaration, with_declaration}
 use Rattle.meaning_core.specs.WellMade.{IsTypedFor, IsWellMade}
 use Rattle.tree_typing.specs.Trees.{tree_typed}
@@ -21,4 +21,4 @@ module _ (s : State) (w : Word) (rel : RelP) where
       then-sound (IsFree s) IsKept (new_name s w) _ (free-name s w) (λ name free.
       then-sound (IsTypedFor s) IsKept (tree_typed s rel) _ typed (λ t is.
       then-sound (λ (_ : Unit {0}). Unit {0}) IsKept (room_for_view s w.place t) _ (any-given (room_for_view s w.place t)) (λ _ _.
-      with-relvar s name (view t None) made free (is, tt))))
+      with-relvar s name (view t derived) made free (is, tt))))

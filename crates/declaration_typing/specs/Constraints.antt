@@ -35,7 +35,7 @@ key_words (syntax.Names at words) = words
 abbrev pub base_heading : Place → Option PlainRelvar → OrFault Heading
 base_heading at None = refused at E10
 base_heading at (Some (base value constraints)) = Ok value.heading
-base_heading at (Some (view t history)) = refused at E20
+base_heading at (Some (view t kind)) = refused at E20
 base_heading at (Some (log of side last value)) = refused at E20
 
 -- the referenced relvar is a base relvar, or the relvar that is declared

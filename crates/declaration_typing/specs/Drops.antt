@@ -1,6 +1,6 @@
 -- The typing of DROP VAR.
 --     dropped state name      the name of the relvar or view, or the first refusal
-use Rattle.std.specs.Prelude.{Bool, false, not, ◌&&◌, ◌||◌, is_some, Option, Some, None, Ok}
+use Rattle.std.specs.Prelude.{Bool, false, not, ◌&&◌, ◌||◌, is_some, Ok}
 use Rattle.std.specs.List.{list_any}
 use Rattle.std.specs.Str.{bytes_eq}
 use Rattle.point_core.specs.declared.fault.Code.TheVariants.{E10, E21}
@@ -9,16 +9,20 @@ use Rattle.utd_syntax.specs.Plain.{Word}
 use Rattle.value_core.specs.Values.{Name}
 use Rattle.scalar_typing.specs.Typings.{◌>>=◌}
 use Rattle.relation_typing.specs.Attributes.{name_typed}
-use Rattle.tree_core.specs.Relvars.{State, PlainRelvar, base, view, Entries, Rules, relvar_named, log}
+use Rattle.tree_core.specs.Relvars.{State, PlainKind, derived, of_history, stored, PlainRelvar, base, view, Entries, Rules, relvar_named, log}
 use Rattle.tree_core.specs.Uses.{is_one_of, relvar_names_any, test_names_any}
 use Rattle.meaning_core.specs.Declarations.{group}
 use Rattle.node_typing.specs.Positions.{check}
 
--- whether the view is a history's, and the name that of its since relvar or its during relvar
+-- whether a view of the kind is a history's, and the name that of its since relvar or its during relvar
+abbrev pub is_of : Name → PlainKind → Bool
+is_of name derived = false
+is_of name (of_history names) = bytes_eq name names.0 || bytes_eq name names.1
+is_of name stored = false
+
 abbrev pub is_in_history : Name → PlainRelvar → Bool
 is_in_history name (base value constraints) = false
-is_in_history name (view t None) = false
-is_in_history name (view t (Some names)) = bytes_eq name names.0 || bytes_eq name names.1
+is_in_history name (view t kind) = is_of name kind
 is_in_history name (log of side last value) = false
 
 -- whether a history has the name as that of its since relvar or its during relvar

@@ -41,7 +41,7 @@ log_declared s l r t = do
 -- whether the relvar is a log, or a view that names one of these
 abbrev pub is_over : List Name → PlainRelvar → Bool
 is_over names (base value constraints) = false
-is_over names (view t history) = names_any (is_one_of names) t
+is_over names (view t kind) = names_any (is_one_of names) t
 is_over names (log of side last value) = true
 
 -- these names, and that of the relvar if it is one

@@ -26,7 +26,7 @@ count known (using place h commalist t) = count known t + 1
 -- the name of a relvar or a log counts for one node, and a view's name for as many as its expression has
 abbrev pub relvar_count : List (Name × ℕ) → PlainRelvar → ℕ
 relvar_count known (base value constraints) = 1
-relvar_count known (view t history) = count known t
+relvar_count known (view t kind) = count known t
 relvar_count known (log of side last value) = 1
 
 abbrev pub nodes_of : Entries → Tree → ℕ

@@ -1,13 +1,13 @@
 -- The typing of VAR VIRTUAL.
 --     view_declared state name expression      the view, or the first refusal
-use Rattle.std.specs.Prelude.{nat_le, Ok, None}
+use Rattle.std.specs.Prelude.{nat_le, Ok}
 use Rattle.point_core.specs.declared.fault.Place.{Place}
 use Rattle.point_core.specs.declared.fault.Code.TheVariants.{E22}
 use Rattle.point_core.specs.Faults.{OrFault}
 use Rattle.utd_syntax.specs.Plain.{Word, RelP}
 use Rattle.value_core.specs.Limits.{most_nodes}
 use Rattle.scalar_typing.specs.Typings.{◌>>=◌}
-use Rattle.tree_core.specs.Relvars.{State}
+use Rattle.tree_core.specs.Relvars.{State, derived}
 use Rattle.tree_core.specs.Trees.{Tree}
 use Rattle.meaning_core.specs.Declarations.{PlainDeclaration, view_relvar}
 use Rattle.node_typing.specs.Positions.{check}
@@ -27,4 +27,4 @@ view_declared s w rel = do
   name ← new_name s w
   t ← tree_typed s rel
   room ← room_for_view s w.place t
-  Ok (view_relvar name t None)
+  Ok (view_relvar name t derived)

@@ -3,7 +3,7 @@ ghost use Rattle.std.specs.Prelude.{◌≡◌, map, not, ◌&&◌};
 ghost use Rattle.std.specs.List.{list_any};
 ghost use Rattle.utd_syntax.specs.Read.{read_name};
 ghost use Rattle.scalar_core.specs.Answers.{Gives};
-ghost use Rattle.tree_core.specs.Relvars.{read_relvar, read_relvars};
+ghost use Rattle.tree_core.specs.Relvars.{read_kind, read_relvar, read_relvars};
 ghost use Rattle.tree_core.specs.Uses as uses;
 ghost use Rattle.tree_core.specs.Uses.{is_one_of};
 ghost use Rattle.meaning_core.specs.Declarations.{group};
@@ -14,23 +14,29 @@ use node_typing::check;
 use point_core::{Code, Stop};
 use relation_typing::name_typed;
 use std::alloc::Global;
-use tree_core::{Relvar, Relvars, history_if, is_one_of, relvar_names_any, test_names_any};
+use tree_core::{
+    Relvar, Relvars, ViewKind, history_if, is_one_of, relvar_names_any, test_names_any,
+};
 use utd_syntax::Word;
 use value_core::Name;
+
+// Whether a view of the kind is a history's, and the name that of its since relvar or its during relvar.
+fn is_of(name: &Name, kind: &ViewKind) -> bool
+    ensures { result ≡ rules.is_of name.now (read_kind kind.now) }
+{
+    match kind {
+        ViewKind::OfHistory(names) => *name == names.0 || *name == names.1,
+        ViewKind::Derived => false,
+        ViewKind::Stored(_) => false,
+    }
+}
 
 /// Whether the view is a history's, and the name that of its since relvar or its during relvar.
 fn is_in_history(name: &Name, relvar: &Relvar) -> bool
     ensures { result ≡ rules.is_in_history name.now (read_relvar relvar.now) }
 {
     match relvar {
-        Relvar::View {
-            tree: _,
-            history: Some((since, during)),
-        } => *name == *since || *name == *during,
-        Relvar::View {
-            tree: _,
-            history: None,
-        } => false,
+        Relvar::View { tree: _, kind } => is_of(name, kind),
         Relvar::Base {
             value: _,
             constraints: _,

@@ -63,7 +63,7 @@ fn is_over(relvar: &Relvar, names: &[&Name]) -> bool
             value: _,
             constraints: _,
         } => false,
-        Relvar::View { tree, history: _ } => names_any(tree, names),
+        Relvar::View { tree, kind: _ } => names_any(tree, names),
         Relvar::Log { of: _, log: _ } => true,
     }
 }

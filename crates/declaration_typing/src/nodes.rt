@@ -66,7 +66,7 @@ fn relvar_nodes(known: &[(Name, usize)], relvar: &Relvar) -> usize
             value: _,
             constraints: _,
         } => 1,
-        Relvar::View { tree, history: _ } => count(known, tree),
+        Relvar::View { tree, kind: _ } => count(known, tree),
         Relvar::Log { of: _, log: _ } => 1,
     }
 }

@@ -33,16 +33,12 @@ pub(crate) fn base_heading<'a>(place: Place, found: Option<&'a Relvar>) -> Resul
                 constraints: _,
             },
         ) => Ok(value.heading()),
-        Some(
-            Relvar::View {
-                tree: _,
-                history: _,
-            },
-        )
-        | Some(Relvar::Log { of: _, log: _ }) => Err(Stop::Fault(Fault {
-            place,
-            code: Code::E20,
-        })),
+        Some(Relvar::View { tree: _, kind: _ }) | Some(Relvar::Log { of: _, log: _ }) => Err(
+            Stop::Fault(Fault {
+                place,
+                code: Code::E20,
+            }),
+        ),
         None => Err(Stop::Fault(Fault {
             place,
             code: Code::E10,

@@ -74,7 +74,7 @@ parts_inserted types name value size = map (insert_script types name value.headi
 -- the statements that insert the rows of a base relvar, in their order; a view or a log has none
 abbrev pub inserts : List OrdinalNames → Name → PlainRelvar → List (List ℕ)
 inserts types name (base value constraints) = parts_inserted types name value (rows_a_statement name constraints)
-inserts types name (view t history) = []
+inserts types name (view t kind) = []
 inserts types name (log of side last value) = []
 
 -- those of all base relvars, in the order of declaration
@@ -89,7 +89,7 @@ rows_of_state state = rows_of_entries state.ordinals state.relvars
 -- the value of a base relvar is a relation, and those of all are
 abbrev pub HasRelation : PlainRelvar → Type 0
 HasRelation (base value constraints) = IsRelation value
-HasRelation (view t history) = Unit {0}
+HasRelation (view t kind) = Unit {0}
 HasRelation (log of side last value) = Unit {0}
 
 abbrev pub HaveRelations : Entries → Type 0

@@ -136,10 +136,7 @@ fn put_relvar(
             let size = rows_a_statement(name, constraints.list.as_slice());
             put_parts(draft, types, name, value, size)
         }
-        Relvar::View {
-            tree: _,
-            history: _,
-        } => Ok(()),
+        Relvar::View { tree: _, kind: _ } => Ok(()),
         Relvar::Log { of: _, log: _ } => Ok(()),
     }
 }

@@ -18,7 +18,7 @@ use Rattle.value_core.specs.declared.list.OrdinalNames.{OrdinalNames}
 use Rattle.value_core.specs.Limits.{most_relvars}
 use Rattle.value_core.specs.Values.{Name}
 use Rattle.tree_core.specs.declared.declaration.LogData.{LogData}
-use Rattle.tree_core.specs.Relvars.{State, PlainRelvar, base, view, Entries, relvar_named, heading_if}
+use Rattle.tree_core.specs.Relvars.{State, PlainRelvar, base, view, Entries, relvar_named, heading_if, derived}
 use Rattle.tree_core.specs.Trees.{Test}
 use Rattle.tree_core.specs.Uses.{is_one_of}
 use Rattle.dump_core.specs.Texts.{SourceText, forgotten}
@@ -80,7 +80,7 @@ typed-own w (said_ordinal name names) then = tt
 typed-own w (said_base name heading typed) then = tt
 typed-own w (said_view name t) then =
     subst (λ (l : List OrdinalNames). IsTypedTree (sizes_of l) (headings_of w.relvars) t) (append-nil w.ordinals)
-    (behind (sizes_of (w.ordinals ++ [])) [] w.relvars ((name, view t None) ∷ []) then.relvars).0.0
+    (behind (sizes_of (w.ordinals ++ [])) [] w.relvars ((name, view t derived) ∷ []) then.relvars).0.0
 typed-own w (said_history h) then = tt
 typed-own w (said_rule name t) then =
     let sizes : List ℕ = sizes_of (w.ordinals ++ []) in

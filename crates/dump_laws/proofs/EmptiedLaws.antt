@@ -7,7 +7,7 @@ use Rattle.std.proofs.Common.{◌≡◌, ℕ, Bool, true, false, cond, List, [],
 use Rattle.std.specs.List.{filter}
 use Rattle.std.specs.Str.{bytes_eq}
 use Rattle.value_core.specs.Values.{Name}
-use Rattle.tree_core.specs.Relvars.{State, PlainRelvar, base, view, Entries, relvar_named, heading_if, constraints_if, history_if, log}
+use Rattle.tree_core.specs.Relvars.{State, PlainRelvar, base, view, Entries, relvar_named, heading_if, constraints_if, history_if, log, derived, stored, of_history, PlainKind}
 use Rattle.tree_core.specs.Trees.{Tree}
 use Rattle.meaning_core.proofs.RowlessLemmas.{bare, bare_all}
 use Rattle.meaning_laws.specs.Likeness.{LikeIf, Alike}
@@ -22,29 +22,33 @@ use Rattle.dump_laws.proofs.NamingLaws.{IsView, tree_in}
 
 pub early-emptied : (e : Name × PlainRelvar) → is_early (emptied e) ≡ is_early e
 early-emptied (name, base value constraints) = refl
-early-emptied (name, view t None) = refl
-early-emptied (name, view t (Some names)) = refl
+early-emptied (name, view t derived) = refl
+early-emptied (name, view t stored) = refl
+early-emptied (name, view t (of_history names)) = refl
 early-emptied (name, log o k last w) = refl
 
 pub late-emptied : (e : Name × PlainRelvar) → is_late (emptied e) ≡ is_late e
 late-emptied (name, base value constraints) = refl
-late-emptied (name, view t None) = refl
-late-emptied (name, view t (Some names)) = refl
+late-emptied (name, view t derived) = refl
+late-emptied (name, view t stored) = refl
+late-emptied (name, view t (of_history names)) = refl
 late-emptied (name, log o k last w) = refl
 
 -- in the words of meaning_core
 early-bare : (es : Entries) → map emptied (filter is_early es) ≡ filter is_early (bare_all es)
 early-bare [] = refl
 early-bare ((name, base value constraints) ∷ es) = ap (λ (l : Entries). (name, base (record { heading = value.heading; rows = [] }) constraints) ∷ l) (early-bare es)
-early-bare ((name, view t None) ∷ es) = early-bare es
-early-bare ((name, view t (Some names)) ∷ es) = ap (λ (l : Entries). (name, view t (Some names)) ∷ l) (early-bare es)
+early-bare ((name, view t derived) ∷ es) = early-bare es
+early-bare ((name, view t stored) ∷ es) = early-bare es
+early-bare ((name, view t (of_history names)) ∷ es) = ap (λ (l : Entries). (name, view t (of_history names)) ∷ l) (early-bare es)
 early-bare ((name, log o k last w) ∷ es) = early-bare es
 
 late-bare : (es : Entries) → filter is_late es ≡ filter is_late (bare_all es)
 late-bare [] = refl
 late-bare ((name, base value constraints) ∷ es) = late-bare es
-late-bare ((name, view t None) ∷ es) = ap (λ (l : Entries). (name, view t None) ∷ l) (late-bare es)
-late-bare ((name, view t (Some names)) ∷ es) = late-bare es
+late-bare ((name, view t derived) ∷ es) = ap (λ (l : Entries). (name, view t derived) ∷ l) (late-bare es)
+late-bare ((name, view t stored) ∷ es) = ap (λ (l : Entries). (name, view t stored) ∷ l) (late-bare es)
+late-bare ((name, view t (of_history names)) ∷ es) = late-bare es
 late-bare ((name, log o k last w) ∷ es) = late-bare es
 
 module _ (es fs : Entries) (same : bare_all fs ≡ bare_all es) where
@@ -106,6 +110,12 @@ side_if other (Some (base v c)) = other
 side_if other (Some (view t h)) = other
 side_if other (Some (log o k last w)) = k
 
+abbrev kind_if : PlainKind → Option PlainRelvar → PlainKind
+kind_if other None = other
+kind_if other (Some (base v c)) = other
+kind_if other (Some (view t h)) = h
+kind_if other (Some (log o k last w)) = other
+
 abbrev tree_if : Tree → Option PlainRelvar → Tree
 tree_if other None = other
 tree_if other (Some r) = tree_in other r
@@ -120,7 +130,7 @@ like-bare (Some x) None e = absurd (subst IsSomeRelvar e tt)
 like-bare (Some (base v c)) (Some (base u d)) e = (ap heading_if (sym e), ap constraints_if (sym e))
 like-bare (Some (base v c)) (Some (view u g)) e = absurd (subst IsViewIf (sym e) tt)
 like-bare (Some (view t h)) (Some (base u d)) e = absurd (subst IsViewIf e tt)
-like-bare (Some (view t h)) (Some (view u g)) e = (((λ p. p), ap (tree_if t) (sym e) ∙ sym (tree-same t)), ap history_if (sym e))
+like-bare (Some (view t h)) (Some (view u g)) e = (((λ p. p), ap (tree_if t) (sym e) ∙ sym (tree-same t)), ap (kind_if h) (sym e))
 like-bare (Some (base v c)) (Some (log o k last w)) e = absurd (subst IsLogIf (sym e) tt)
 like-bare (Some (view t h)) (Some (log o k last w)) e = absurd (subst IsLogIf (sym e) tt)
 like-bare (Some (log o k last w)) (Some (base u d)) e = absurd (subst IsLogIf e tt)

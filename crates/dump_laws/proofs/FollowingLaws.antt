@@ -8,7 +8,7 @@ use Rattle.std.proofs.lemmas.Bool.{true≢false}
 use Rattle.base_core.proofs.SetLemmas.{In}
 use Rattle.value_core.specs.Limits.{most_nodes}
 use Rattle.value_core.specs.Values.{Name}
-use Rattle.tree_core.specs.Relvars.{State, PlainRelvar, base, view, Entries, relvar_named, log}
+use Rattle.tree_core.specs.Relvars.{State, PlainRelvar, base, view, Entries, relvar_named, log, derived}
 use Rattle.tree_core.specs.Trees.{Tree, Test}
 use Rattle.tree_core.specs.Uses.{relvar_names_any}
 use Rattle.meaning_core.specs.Typing.{IsTypedTree}
@@ -48,11 +48,11 @@ IsTypedSaid w (said_view name t) = IsTypedFor w t
 IsTypedSaid w (said_history made) = Unit {0}
 IsTypedSaid w (said_rule name t) = IsTypedTestFor w t
 
-view-typed : (sizes : List ℕ) (front back : Entries) (x : Name × PlainRelvar) (name : Name) (t : Tree) → IsRelvar sizes front x.0 x.1 → (name, view t None) ≡ emptied x
+view-typed : (sizes : List ℕ) (front back : Entries) (x : Name × PlainRelvar) (name : Name) (t : Tree) → IsRelvar sizes front x.0 x.1 → (name, view t derived) ≡ emptied x
     → (es : Entries) → es ≡ front ++ back → IsTypedTree sizes (headings_of es) t
 view-typed sizes front back (own, base value cs) name t is e es whole = absurd (subst (λ (y : Name × PlainRelvar). IsView y.1) e tt)
 view-typed sizes front back (own, log o k last w) name t is e es whole = absurd (subst (λ (y : Name × PlainRelvar). IsView y.1) e tt)
-view-typed sizes front back (own, view u history) name t is e es whole =
+view-typed sizes front back (own, view u kind) name t is e es whole =
     let same : u ≡ t = ap (λ (y : Name × PlainRelvar). tree_in t y.1) (sym e) in
     subst (λ (l : Entries). IsTypedTree sizes (headings_of l) t) (sym whole)
     (subst (λ (v : Tree). IsTypedTree sizes (headings_of (front ++ back)) v) same (tree-behind sizes front back u is.0))
@@ -61,7 +61,7 @@ pub said-typed : (w : State) (ds : List Said) → IsListedAs w ds → IsWellMade
 said-typed w ds listed made (said_ordinal name names) i = tt
 said-typed w ds listed made (said_base name heading typed) i = tt
 said-typed w ds listed made (said_view name t) i =
-    let here = entry-in w ds listed (name, view t None) (said_view name t) i (inl refl) in
+    let here = entry-in w ds listed (name, view t derived) (said_view name t) i (inl refl) in
     let place = placed-in (sizes_of w.ordinals) [] w.relvars here.0 made.relvars here.1 in
     view-typed (sizes_of w.ordinals) place.0 place.1 here.0 name t place.3 here.2 w.relvars place.2
 said-typed w ds listed made (said_history h) i = tt
@@ -97,7 +97,7 @@ apart-from some (e ∷ es) h = (h e (inl refl), apart-from some es (λ x i. h x 
 
 relvar-names : (some : Name → Bool) (sizes : List ℕ) (front : Entries) (own : Name) (r : PlainRelvar) → AreNew some front → IsRelvar sizes front own r → view_names some r ≡ false
 relvar-names some sizes front own (base value cs) new is = refl
-relvar-names some sizes front own (view t history) new is = typed-names some sizes (headings_of front) (new-clear some front new) t is.0
+relvar-names some sizes front own (view t kind) new is = typed-names some sizes (headings_of front) (new-clear some front new) t is.0
 relvar-names some sizes front own (log o k last w) new is = refl
 
 apart-new : (some : Name → Bool) (w : State) → IsWellMade w → AreNew some w.relvars → IsApart some w.relvars
@@ -109,7 +109,7 @@ apart-new some w made new =
 
 view-unnamed : (some : Name → Bool) (r : PlainRelvar) → relvar_names_any some r ≡ false → view_names some r ≡ false
 view-unnamed some (base value cs) e = refl
-view-unnamed some (view t history) e = e
+view-unnamed some (view t kind) e = e
 view-unnamed some (log o k last w) e = refl
 
 apart-left : (some : Name → Bool) (es : Entries) → relvars_use es some ≡ false → IsApart some es

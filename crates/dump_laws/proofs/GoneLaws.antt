@@ -13,7 +13,7 @@ use Rattle.base_core.proofs.MemberLemmas.{In-append, In-flat_map, list_any-In}
 use Rattle.base_core.proofs.SetLemmas.{In}
 use Rattle.value_core.specs.declared.constraint.Constraint.{Constraint}
 use Rattle.value_core.specs.Values.{Name, Relation}
-use Rattle.tree_core.specs.Relvars.{State, PlainRelvar, base, view, relvar_named, history_if, log}
+use Rattle.tree_core.specs.Relvars.{State, PlainRelvar, base, view, relvar_named, history_if, log, derived, stored, of_history, PlainKind, history_in}
 use Rattle.tree_core.specs.Trees.{Tree, Test}
 use Rattle.tree_core.specs.Uses.{is_one_of}
 use Rattle.meaning_core.specs.Declarations.{with_history, group}
@@ -69,23 +69,24 @@ others-differ front back d differ =
 
 base-history : (r : PlainRelvar) (v : Relation) (cs : List Constraint) → without_rows r ≡ base v cs → history_if (Some r) ≡ None
 base-history (base value constraints) v cs e = refl
-base-history (view t history) v cs e = absurd (cc)
+base-history (view t kind) v cs e = absurd (cc)
 base-history (log o k last w) v cs e = absurd (cc)
 
-view-history : (r : PlainRelvar) (t : Tree) (o : Option (Name × Name)) → without_rows r ≡ view t o → history_if (Some r) ≡ o
-view-history (base value constraints) t o e = absurd (cc)
-view-history (view u p) t o e = let same : p ≡ o = cc in same
-view-history (log q k last w) t o e = absurd (cc)
+view-history : (r : PlainRelvar) (t : Tree) (kind : PlainKind) → without_rows r ≡ view t kind → history_if (Some r) ≡ history_in kind
+view-history (base value constraints) t kind e = absurd (cc)
+view-history (view u p) t kind e = let same : p ≡ kind = cc in ap history_in same
+view-history (log q k last w) t kind e = absurd (cc)
 
-is-its : (x : Name × PlainRelvar) (n : Name) (t : Tree) (names : Name × Name) → without_rows x.1 ≡ view t (Some names) → (bytes_eq n names.0 || bytes_eq n names.1) ≡ true
+is-its : (x : Name × PlainRelvar) (n : Name) (t : Tree) (names : Name × Name) → without_rows x.1 ≡ view t (of_history names) → (bytes_eq n names.0 || bytes_eq n names.1) ≡ true
     → is_in_history n x.1 ≡ true
 is-its x n t names e one = by x.1 e
   where
-    by : (r : PlainRelvar) → without_rows r ≡ view t (Some names) → is_in_history n r ≡ true
+    by : (r : PlainRelvar) → without_rows r ≡ view t (of_history names) → is_in_history n r ≡ true
     by (base value constraints) f = absurd (cc)
-    by (view u None) f = absurd (cc)
+    by (view u derived) f = absurd (cc)
+    by (view u stored) f = absurd (cc)
     by (log o k last w) f = absurd (cc)
-    by (view u (Some others)) f = let same : others ≡ names = cc in subst (λ (p : Name × Name). (bytes_eq n p.0 || bytes_eq n p.1) ≡ true) (sym same) one
+    by (view u (of_history others)) f = let same : others ≡ names = cc in subst (λ (p : Name × Name). (bytes_eq n p.0 || bytes_eq n p.1) ≡ true) (sym same) one
 
 or-again : (a b c : Bool) → (a || (b || (c || false))) ≡ (c || (b || (a || false)))
 or-again true true true = refl
@@ -119,7 +120,7 @@ module _ (w : State) (ds : List Said) (made : IsListedAs w ds) where
   gone-names name r (said_view own t) e alone i j = elim j [
     | inl k ↦
         let same : name ≡ own = ap (λ (x : Name × PlainRelvar). x.0) k in
-        let none : history_if (relvar_named w.relvars name) ≡ None = ap history_if e ∙ view-history r t None (ap (λ (x : Name × PlainRelvar). x.1) k) in
+        let none : history_if (relvar_named w.relvars name) ≡ None = ap history_if e ∙ view-history r t derived (ap (λ (x : Name × PlainRelvar). x.1) k) in
         (sym same, λ n. ap (λ (o : Option (Name × Name)). is_one_of (with_history name o) n) none ∙ ap (λ (m : Name). is_one_of (m ∷ []) n) same, refl, refl)
     | inr k ↦ absurd k
   ]
@@ -134,7 +135,7 @@ module _ (w : State) (ds : List Said) (made : IsListedAs w ds) where
       | inr m ↦ elim m [
         | inl k ↦
             let same : name ≡ h.view = ap (λ (x : Name × PlainRelvar). x.0) k in
-            let its : history_if (relvar_named w.relvars name) ≡ Some (h.since, h.during) = ap history_if e ∙ view-history r _ (Some (h.since, h.during)) (ap (λ (x : Name × PlainRelvar). x.1) k) in (
+            let its : history_if (relvar_named w.relvars name) ≡ Some (h.since, h.during) = ap history_if e ∙ view-history r _ (of_history (h.since, h.during)) (ap (λ (x : Name × PlainRelvar). x.1) k) in (
               sym same,
               λ n.
                   ap (λ (o : Option (Name × Name)). is_one_of (with_history name o) n) its

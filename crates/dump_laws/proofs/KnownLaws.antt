@@ -12,7 +12,7 @@ use Rattle.base_core.proofs.SetLemmas.{In}
 use Rattle.value_core.specs.declared.constraint.Constraint.{Constraint}
 use Rattle.value_core.specs.declared.constraint.Constraint.TheVariants.{Key, Packed, WhenUnpacked, UKey, Foreign, History}
 use Rattle.value_core.specs.Values.{Name, Relation}
-use Rattle.tree_core.specs.Relvars.{State, PlainRelvar, base, view, Entries, relvar_named, relvar_heading}
+use Rattle.tree_core.specs.Relvars.{State, PlainRelvar, base, view, Entries, relvar_named, relvar_heading, PlainKind}
 use Rattle.tree_core.specs.Trees.{Tree, Test}
 use Rattle.tree_core.specs.Uses.{names_any, test_names_any}
 use Rattle.meaning_core.specs.Typing.{heading_named}
@@ -76,11 +76,11 @@ module _ (w r : State) (well : IsWellMade w) where
       by None e = refl
       by (Some x) e = absurd (true≢false (sym none ∙ known (name, x) (named-in before name x e)))
 
-  pub view-known : (before behind : Entries) (name : Name) (t : Tree) (history : Option (Name × Name)) → w.relvars ≡ before ++ (name, view t history) ∷ behind
+  pub view-known : (before behind : Entries) (name : Name) (t : Tree) (kind : PlainKind) → w.relvars ≡ before ++ (name, view t kind) ∷ behind
       → ((x : Name × PlainRelvar) → In x before → lacks r x.0 ≡ false) → names_any (lacks r) t ≡ false
-  view-known before behind name t history whole known =
-      let is : IsRelvar (sizes_of w.ordinals) before name (view t history) =
-      relvar-at (sizes_of w.ordinals) [] before behind (name, view t history) (subst (AreRelvars (sizes_of w.ordinals) []) whole well.relvars) in
+  view-known before behind name t kind whole known =
+      let is : IsRelvar (sizes_of w.ordinals) before name (view t kind) =
+      relvar-at (sizes_of w.ordinals) [] before behind (name, view t kind) (subst (AreRelvars (sizes_of w.ordinals) []) whole well.relvars) in
       typed-names (lacks r) (sizes_of w.ordinals) (headings_of before) (clear before known) t is.0
 
   pub rule-known : (t : Test) → IsTypedTestFor w t → ((x : Name × PlainRelvar) → In x w.relvars → lacks r x.0 ≡ false) → test_names_any (lacks r) t ≡ false

@@ -12,7 +12,7 @@ use Rattle.std.specs.Str.{bytes_eq}
 use Rattle.std.proofs.lemmas.Bool.{or_parts, or_from}
 use Rattle.value_core.specs.declared.constraint.Constraint.{Constraint}
 use Rattle.value_core.specs.Values.{Name, Relation}
-use Rattle.tree_core.specs.Relvars.{PlainRelvar, base, view, Entries, Rules, relvar_named, log}
+use Rattle.tree_core.specs.Relvars.{PlainRelvar, base, view, Entries, Rules, relvar_named, log, PlainKind}
 use Rattle.meaning_core.specs.Logs.{is_log, has_log}
 use Rattle.meaning_core.proofs.RowlessLemmas.{bare, bare_entry, bare_all}
 use Rattle.meaning_laws.specs.Likeness.{IsLike}
@@ -79,7 +79,7 @@ pub same-early : (n m : Name) (x y : PlainRelvar) → IsLike x y → is_early (m
 same-early n m (base v c) (base u d) h = refl
 same-early n m (base v c) (view u g) h = absurd h
 same-early n m (view t k) (base u d) h = absurd h
-same-early n m (view t k) (view u g) h = ap (λ (o : Option (Name × Name)). is_early_relvar (view t o)) h.1 ∙ refl
+same-early n m (view t k) (view u g) h = ap (λ (kind : PlainKind). is_early_relvar (view t kind)) h.1 ∙ refl
 same-early n m (base v c) (log o i last w) h = absurd h
 same-early n m (view t k) (log o i last w) h = absurd h
 same-early n m (log o i last w) (base u d) h = absurd h
@@ -90,7 +90,7 @@ pub same-late : (n m : Name) (x y : PlainRelvar) → IsLike x y → is_late (m, 
 same-late n m (base v c) (base u d) h = refl
 same-late n m (base v c) (view u g) h = absurd h
 same-late n m (view t k) (base u d) h = absurd h
-same-late n m (view t k) (view u g) h = ap (λ (o : Option (Name × Name)). is_late_relvar (view t o)) h.1 ∙ refl
+same-late n m (view t k) (view u g) h = ap (λ (kind : PlainKind). is_late_relvar (view t kind)) h.1 ∙ refl
 same-late n m (base v c) (log o i last w) h = absurd h
 same-late n m (view t k) (log o i last w) h = absurd h
 same-late n m (log o i last w) (base u d) h = absurd h

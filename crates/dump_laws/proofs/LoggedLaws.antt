@@ -14,7 +14,7 @@ use Rattle.base_core.proofs.SetLemmas.{In}
 use Rattle.relation_core.proofs.FilterLemmas.{filter_all}
 use Rattle.value_core.specs.declared.list.OrdinalNames.{OrdinalNames}
 use Rattle.value_core.specs.Values.{Name}
-use Rattle.tree_core.specs.Relvars.{State, PlainRelvar, base, view, log, Entries, relvar_named, history_if}
+use Rattle.tree_core.specs.Relvars.{State, PlainRelvar, base, view, log, Entries, relvar_named, history_if, derived, stored, of_history}
 use Rattle.tree_core.specs.Trees.{Test}
 use Rattle.tree_core.specs.Uses.{is_one_of}
 use Rattle.tree_core.specs.declared.declaration.LogData.{LogData}
@@ -35,7 +35,7 @@ use Rattle.dump_laws.proofs.PlaceLemmas.{named-once}
 
 log-emptied : (r : PlainRelvar) → is_log (without_rows r) ≡ is_log r
 log-emptied (base value constraints) = refl
-log-emptied (view t history) = refl
+log-emptied (view t kind) = refl
 log-emptied (log of side last value) = refl
 
 entry-no-log : (e : Name × PlainRelvar) (d : Said) → In e (entries_said d) → is_log e.1 ≡ false
@@ -67,25 +67,26 @@ said-logless (d ∷ ds) =
 -- what stands before all rows is no log, and no view is
 early-no-log : (x : Name × PlainRelvar) → is_early x ≡ true → is_log x.1 ≡ false
 early-no-log (name, base value constraints) e = refl
-early-no-log (name, view t history) e = refl
+early-no-log (name, view t kind) e = refl
 early-no-log (name, log of side last value) e = absurd (true≢false (sym e))
 
 late-no-log : (x : Name × PlainRelvar) → is_late x ≡ true → is_log x.1 ≡ false
 late-no-log (name, base value constraints) e = refl
-late-no-log (name, view t history) e = refl
+late-no-log (name, view t kind) e = refl
 late-no-log (name, log of side last value) e = absurd (true≢false (sym e))
 
 pub early-logless : (es : Entries) → has_log (filter is_early es) ≡ false
 early-logless [] = refl
 early-logless ((name, base value constraints) ∷ es) = early-logless es
-early-logless ((name, view t None) ∷ es) = early-logless es
-early-logless ((name, view t (Some names)) ∷ es) = early-logless es
+early-logless ((name, view t derived) ∷ es) = early-logless es
+early-logless ((name, view t stored) ∷ es) = early-logless es
+early-logless ((name, view t (of_history names)) ∷ es) = early-logless es
 early-logless ((name, log of side last value) ∷ es) = early-logless es
 
 -- with its first rows alone, or without rows, an entry is a log as before
 log-first : (n : ℕ) (r : PlainRelvar) → is_log (with_first n r) ≡ is_log r
 log-first n (base value constraints) = refl
-log-first n (view t history) = refl
+log-first n (view t kind) = refl
 log-first n (log of side last value) = refl
 
 emptied-logless : (es : Entries) → has_log es ≡ false → has_log (map emptied es) ≡ false
@@ -107,7 +108,7 @@ loaded-logless (suc i) n (e ∷ es) none =
 
 no-history : (r : PlainRelvar) → is_log r ≡ true → history_if (Some r) ≡ None
 no-history (base value constraints) is = absurd (true≢false (sym is))
-no-history (view t history) is = absurd (true≢false (sym is))
+no-history (view t kind) is = absurd (true≢false (sym is))
 no-history (log of side last value) is = refl
 
 module _ (w : State) (ds : List Said) (listed : IsListedAs w ds) (well : IsWellMade w) (name : Name) (r : PlainRelvar) (found : relvar_named w.relvars name ≡ Some r) (is : is_log r ≡ true) where

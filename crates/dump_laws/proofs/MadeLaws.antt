@@ -16,7 +16,7 @@ use Rattle.base_core.proofs.MemberLemmas.{In-filter, In-flat_map, In-map, list_a
 use Rattle.base_core.proofs.SetLemmas.{In}
 use Rattle.value_core.specs.declared.list.OrdinalNames.{OrdinalNames}
 use Rattle.value_core.specs.Values.{Name}
-use Rattle.tree_core.specs.Relvars.{State, PlainRelvar, base, view, Entries, Rules, relvar_named, log}
+use Rattle.tree_core.specs.Relvars.{State, PlainRelvar, base, view, Entries, Rules, relvar_named, log, derived, stored, of_history}
 use Rattle.tree_core.specs.Trees.{Test}
 use Rattle.meaning_core.specs.Logs.{is_log}
 use Rattle.meaning_core.proofs.ElsewhereLemmas.{some-apart}
@@ -88,28 +88,32 @@ in-named (k ∷ es) x i = elim i [
 -- a view that no history has is as it is without rows
 late-same : (x : Name × PlainRelvar) → is_late x ≡ true → emptied x ≡ x
 late-same (name, base value constraints) e = absurd (true≢false (sym e))
-late-same (name, view t None) e = refl
-late-same (name, view t (Some names)) e = refl
+late-same (name, view t derived) e = refl
+late-same (name, view t stored) e = refl
+late-same (name, view t (of_history names)) e = refl
 late-same (name, log o k last w) e = refl
 
 -- what is no log stands before all rows, or is a view
 pub early-or-late : (x : Name × PlainRelvar) → is_log x.1 ≡ false → is_early x ≡ false → is_late x ≡ true
 early-or-late (name, base value constraints) none e = absurd (true≢false e)
-early-or-late (name, view t None) none e = refl
-early-or-late (name, view t (Some names)) none e = absurd (true≢false e)
+early-or-late (name, view t derived) none e = refl
+early-or-late (name, view t stored) none e = refl
+early-or-late (name, view t (of_history names)) none e = absurd (true≢false e)
 early-or-late (name, log o k last w) none e = absurd (true≢false none)
 
 -- and not both
 pub never-both : (x : Name × PlainRelvar) → is_late x ≡ true → is_early x ≡ false
 never-both (name, base value constraints) e = absurd (true≢false (sym e))
-never-both (name, view t None) e = refl
-never-both (name, view t (Some names)) e = absurd (true≢false (sym e))
+never-both (name, view t derived) e = refl
+never-both (name, view t stored) e = refl
+never-both (name, view t (of_history names)) e = absurd (true≢false (sym e))
 never-both (name, log o k last w) e = refl
 
 pub never-late : (x : Name × PlainRelvar) → is_early x ≡ true → is_late x ≡ false
 never-late (name, base value constraints) e = refl
-never-late (name, view t None) e = absurd (true≢false (sym e))
-never-late (name, view t (Some names)) e = refl
+never-late (name, view t derived) e = absurd (true≢false (sym e))
+never-late (name, view t stored) e = absurd (true≢false (sym e))
+never-late (name, view t (of_history names)) e = refl
 never-late (name, log o k last w) e = refl
 
 module _ (w : State) (ds : List Said) (made : IsListedAs w ds) where
@@ -131,7 +135,7 @@ module _ (w : State) (ds : List Said) (made : IsListedAs w ds) where
   entry-in e (said_ordinal name names) i j = absurd j
   entry-in e (said_base name heading typed) i j = from-early e (said_base name heading typed) i j refl
   entry-in e (said_view name t) i j =
-      let is : e ≡ (name, view t None) = elim j [ inl k ↦ k | inr k ↦ absurd k ] in
+      let is : e ≡ (name, view t derived) = elim j [ inl k ↦ k | inr k ↦ absurd k ] in
       (e, (from-views e (said_view name t) i j refl).0, subst (λ (x : Name × PlainRelvar). x ≡ emptied x) (sym is) refl)
   entry-in e (said_history h) i j = from-early e (said_history h) i j refl
   entry-in e (said_rule name t) i j = absurd j

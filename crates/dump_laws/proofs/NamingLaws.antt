@@ -11,7 +11,7 @@ use Rattle.base_core.proofs.SetLemmas.{In}
 use Rattle.value_core.specs.declared.constraint.Constraint.{Constraint}
 use Rattle.value_core.specs.declared.constraint.Constraint.TheVariants.{Key, Packed, WhenUnpacked, UKey, Foreign, History}
 use Rattle.value_core.specs.Values.{Name, Heading}
-use Rattle.tree_core.specs.Relvars.{State, PlainRelvar, base, view, Entries, relvar_named, relvar_heading, log}
+use Rattle.tree_core.specs.Relvars.{State, PlainRelvar, base, view, Entries, relvar_named, relvar_heading, log, derived}
 use Rattle.tree_core.specs.Trees.{Tree, Test}
 use Rattle.tree_core.specs.Uses.{names_any, test_names_any, references_any, relvar_names_any}
 use Rattle.meaning_core.specs.WellMade.{sizes_of, headings_of, IsBase, IsConstraint, IsRelvar, AreRelvars, IsWellMade, IsTypedTestFor}
@@ -61,23 +61,23 @@ named-front front back name e = by (relvar_named front name) refl
 
 abbrev pub IsView : PlainRelvar → Type 0
 IsView (base value constraints) = ⊥
-IsView (view t history) = Unit {0}
+IsView (view t kind) = Unit {0}
 IsView (log o k last w) = ⊥
 
 abbrev pub IsBaseRelvar : PlainRelvar → Type 0
 IsBaseRelvar (base value constraints) = Unit {0}
-IsBaseRelvar (view t history) = ⊥
+IsBaseRelvar (view t kind) = ⊥
 IsBaseRelvar (log o k last w) = ⊥
 
 abbrev pub constraints_in : PlainRelvar → List Constraint
 constraints_in (base value constraints) = constraints
-constraints_in (view t history) = []
+constraints_in (view t kind) = []
 constraints_in (log o k last w) = []
 
 -- the expression of a view, and another of a base relvar
 abbrev pub tree_in : Tree → PlainRelvar → Tree
 tree_in other (base value constraints) = other
-tree_in other (view t history) = t
+tree_in other (view t kind) = t
 tree_in other (log o k last w) = other
 
 module _ (some : Name → Bool) where
@@ -138,13 +138,13 @@ module _ (some : Name → Bool) where
       let all : cs ≡ typed = ap (λ (y : Name × PlainRelvar). constraints_in y.1) (sym e) in
       subst (λ (n : Name). list_any (references_other some n) typed ≡ false) same
       (subst (λ (l : List Constraint). list_any (references_other some own) l ≡ false) all (constraints-new es own (base value cs) cs new is.1))
-  base-new sizes es (own, view t history) name heading typed new is e = absurd (subst (λ (y : Name × PlainRelvar). IsView y.1) (sym e) tt)
+  base-new sizes es (own, view t kind) name heading typed new is e = absurd (subst (λ (y : Name × PlainRelvar). IsView y.1) (sym e) tt)
   base-new sizes es (own, log o k last w) name heading typed new is e = absurd (subst (λ (y : Name × PlainRelvar). IsBaseRelvar y.1) e tt)
 
-  view-new : (sizes : _) (es : Entries) (x : Name × PlainRelvar) (name : Name) (t : Tree) → AreNew es → IsRelvar sizes es x.0 x.1 → (name, view t None) ≡ emptied x → names_any some t ≡ false
+  view-new : (sizes : _) (es : Entries) (x : Name × PlainRelvar) (name : Name) (t : Tree) → AreNew es → IsRelvar sizes es x.0 x.1 → (name, view t derived) ≡ emptied x → names_any some t ≡ false
   view-new sizes es (own, base value cs) name t new is e = absurd (subst (λ (y : Name × PlainRelvar). IsView y.1) e tt)
   view-new sizes es (own, log o k last w) name t new is e = absurd (subst (λ (y : Name × PlainRelvar). IsView y.1) e tt)
-  view-new sizes es (own, view u history) name t new is e =
+  view-new sizes es (own, view u kind) name t new is e =
       let same : u ≡ t = ap (λ (y : Name × PlainRelvar). tree_in t y.1) (sym e) in
       subst (λ (v : Tree). names_any some v ≡ false) same (typed-names some sizes (headings_of es) (new-clear es new) u is.0)
 
@@ -154,13 +154,13 @@ module _ (some : Name → Bool) where
       let all : cs ≡ typed = ap (λ (y : Name × PlainRelvar). constraints_in y.1) (sym e) in
       let unused : list_any (references_any some) typed ≡ false = subst (λ (l : List Constraint). list_any (references_any some) l ≡ false) all none in
       said-unused some (said_base name heading typed) (or_from (list_any (references_any some) typed) false unused refl) refl
-  base-left (own, view t history) name heading typed none e = absurd (subst (λ (y : Name × PlainRelvar). IsView y.1) (sym e) tt)
+  base-left (own, view t kind) name heading typed none e = absurd (subst (λ (y : Name × PlainRelvar). IsView y.1) (sym e) tt)
   base-left (own, log o k last w) name heading typed none e = absurd (subst (λ (y : Name × PlainRelvar). IsBaseRelvar y.1) e tt)
 
-  view-left : (x : Name × PlainRelvar) (name : Name) (t : Tree) → relvar_names_any some x.1 ≡ false → (name, view t None) ≡ emptied x → names_any some t ≡ false
+  view-left : (x : Name × PlainRelvar) (name : Name) (t : Tree) → relvar_names_any some x.1 ≡ false → (name, view t derived) ≡ emptied x → names_any some t ≡ false
   view-left (own, base value cs) name t none e = absurd (subst (λ (y : Name × PlainRelvar). IsView y.1) e tt)
   view-left (own, log o k last w) name t none e = absurd (subst (λ (y : Name × PlainRelvar). IsView y.1) e tt)
-  view-left (own, view u history) name t none e =
+  view-left (own, view u kind) name t none e =
       let same : u ≡ t = ap (λ (y : Name × PlainRelvar). tree_in t y.1) (sym e) in
       subst (λ (v : Tree). names_any some v ≡ false) same none
 

@@ -16,7 +16,7 @@ use Rattle.base_core.proofs.MemberLemmas.{In-append, In-filter, In-flat_map}
 use Rattle.base_core.proofs.SetLemmas.{In}
 use Rattle.value_core.specs.Values.{Name}
 use Rattle.value_core.specs.declared.list.OrdinalNames.{OrdinalNames}
-use Rattle.tree_core.specs.Relvars.{State, base, view, log, Entries, Rules}
+use Rattle.tree_core.specs.Relvars.{State, base, view, log, Entries, Rules, derived, stored, of_history}
 use Rattle.typing_laws.specs.Saying.{Said, said_ordinal, said_base, said_view, said_history, said_rule, names_said, entries_said, ordinals_said, rules_said}
 use Rattle.dump_laws.specs.Kept.{is_early, is_late, is_early_said, is_view_said, IsMadeOf}
 use Rattle.part_laws.specs.Parts.{emptied}
@@ -80,8 +80,9 @@ module _ {X Y : Type 0} (f : X → List Y) (p : X → Bool) where
 pub parts-length : (es : Entries) → length (filter is_early es) + length (filter is_late es) ≤ length es
 parts-length [] = omega arith
 parts-length ((name, base value constraints) ∷ es) = let more = parts-length es in omega (arith, more)
-parts-length ((name, view t None) ∷ es) = let more = parts-length es in omega (arith, more)
-parts-length ((name, view t (Some names)) ∷ es) = let more = parts-length es in omega (arith, more)
+parts-length ((name, view t derived) ∷ es) = let more = parts-length es in omega (arith, more)
+parts-length ((name, view t stored) ∷ es) = let more = parts-length es in omega (arith, more)
+parts-length ((name, view t (of_history names)) ∷ es) = let more = parts-length es in omega (arith, more)
 parts-length ((name, log o k last w) ∷ es) = let more = parts-length es in omega (arith, more)
 
 -- ---- the three kinds

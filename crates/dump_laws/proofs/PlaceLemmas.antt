@@ -11,7 +11,7 @@ use Rattle.base_core.proofs.MemberLemmas.{In-map}
 use Rattle.base_core.proofs.SetLemmas.{In}
 use Rattle.value_core.specs.declared.constraint.Constraint.{Constraint}
 use Rattle.value_core.specs.Values.{Name, Heading, Relation}
-use Rattle.tree_core.specs.Relvars.{State, PlainRelvar, base, view, Entries, relvar_named, log}
+use Rattle.tree_core.specs.Relvars.{State, PlainRelvar, base, view, Entries, relvar_named, log, derived}
 use Rattle.tree_core.specs.Trees.{Tree}
 use Rattle.meaning_core.proofs.MadeLemmas.{own_name}
 use Rattle.typing_laws.specs.Saying.{Said, said_base, said_view, entries_said}
@@ -115,7 +115,7 @@ pub record IsOfBase (r : PlainRelvar) (c : List Constraint) : Type 0 where
 
 of-base : (r : PlainRelvar) (u : Relation) (c : List Constraint) → without_rows r ≡ base u c → IsOfBase r c
 of-base (base v d) u c e = let same : d ≡ c = cc in record { value = v; is = ap (base v) same }
-of-base (view t history) u c e = absurd (cc)
+of-base (view t kind) u c e = absurd (cc)
 of-base (log o k last w) u c e = absurd (cc)
 
 -- where an entry stands: those before it are these
@@ -153,9 +153,9 @@ module _ (w : State) (ds : List Said) (made : IsMadeOf w ds) (done rest : List S
       base-from w (flat_map entries_said done) name u c
       (map-split emptied (filter is_early w.relvars) (flat_map entries_said done) (name, base u c) (flat_map entries_said rest) whole)
 
-  pub view-place : (t : Tree) → filter is_view_said ds ≡ done ++ said_view name t ∷ rest → IsPlaced w is_late (λ x. x) (flat_map entries_said done) name (view t None)
+  pub view-place : (t : Tree) → filter is_view_said ds ≡ done ++ said_view name t ∷ rest → IsPlaced w is_late (λ x. x) (flat_map entries_said done) name (view t derived)
   view-place t e =
-      let y : Name × PlainRelvar = (name, view t None) in
+      let y : Name × PlainRelvar = (name, view t derived) in
       let whole : filter is_late w.relvars ≡ flat_map entries_said done ++ y ∷ flat_map entries_said rest =
       made.views ∙ (ap (flat_map entries_said) e ∙ given-middle entries_said done rest (said_view name t)) in
       let s : IsFilterSplit is_late w.relvars (flat_map entries_said done) y = filter-split is_late y (flat_map entries_said rest) w.relvars (flat_map entries_said done) whole in

@@ -12,7 +12,7 @@ use Rattle.base_core.proofs.MemberLemmas.{In-append, In-filter, In-map}
 use Rattle.base_core.proofs.SetLemmas.{In}
 use Rattle.point_core.specs.declared.fault.Place.{Place}
 use Rattle.value_core.specs.Values.{Name}
-use Rattle.tree_core.specs.Relvars.{State, PlainRelvar, base, view, Entries, relvar_named, log}
+use Rattle.tree_core.specs.Relvars.{State, PlainRelvar, base, view, Entries, relvar_named, log, derived}
 use Rattle.tree_core.specs.Trees.{Test}
 use Rattle.tree_core.specs.Uses.{test_names_any}
 use Rattle.meaning_core.specs.Logs.{is_log, has_log}
@@ -102,16 +102,16 @@ module _ (w : State) (ds : List Said) (made : IsMadeOf w ds) (well : IsWellMade 
       by : (z : Said) → views_said ds ≡ done ++ z ∷ rest → In z (views_said ds) → said_names_any (lacks r) z ≡ false
       by (said_ordinal name names) q i = refl
       by (said_base name heading c) q i = absurd (true≢false (sym ((In-filter is_view_said (said_base name heading c) ds).0 i).1))
-      by (said_view name t) q i = view-known w r well placed.before placed.behind name t None placed.whole there
+      by (said_view name t) q i = view-known w r well placed.before placed.behind name t derived placed.whole there
         where
-          placed : IsPlaced w is_late (λ x. x) (flat_map entries_said done) name (view t None)
+          placed : IsPlaced w is_late (λ x. x) (flat_map entries_said done) name (view t derived)
           placed = view-place w ds made done rest name t q
 
           there : (x : Name × PlainRelvar) → In x placed.before → lacks r x.0 ≡ false
           there x j = here (is_early x) refl
             where
               among : In x w.relvars
-              among = in-whole x (name, view t None) w.relvars placed.before placed.behind placed.whole j
+              among = in-whole x (name, view t derived) w.relvars placed.before placed.behind placed.whole j
 
               here : (b : Bool) → is_early x ≡ b → lacks r x.0 ≡ false
               here true k = early-there done r h x among k
@@ -137,8 +137,8 @@ module _ (w : State) (ds : List Said) (made : IsMadeOf w ds) (well : IsWellMade 
             let kept : relvar_named (filter is_base r.relvars) name ≡ Some (base v c) = ap (λ (es : Entries). relvar_named es name) bases ∙ named-filtered w.relvars name v c e in
             let found : p ≡ Some (base v c) = sym f ∙ named-unfiltered r.relvars name (base v c) (relvars_differ r fits) kept in
             subst (λ (o : Option PlainRelvar). ValueIf (Some (base v c)) o) (sym found) refl
-        by (Some (view t history)) None e f = tt
-        by (Some (view t history)) (Some y) e f = tt
+        by (Some (view t kind)) None e f = tt
+        by (Some (view t kind)) (Some y) e f = tt
         by (Some (log o k last v)) p e f =
             let there : true ≡ false = any-member (λ (x : Name × PlainRelvar). is_log x.1) w.relvars (name, log o k last v) none (named-in w.relvars name (log o k last v) e) in
             absurd (true≢false there)

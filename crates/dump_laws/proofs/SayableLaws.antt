@@ -218,12 +218,12 @@ entry-sayable e (said_rule name t) held i = absurd i
 -- rows do not count
 with-rows : (e : Name × PlainRelvar) → Sayable (emptied e) → Sayable e
 with-rows (name, base value constraints) held = held
-with-rows (name, view t history) held = held
+with-rows (name, view t kind) held = held
 with-rows (name, log o k last w) held = tt
 
 log-sayable : (e : Name × PlainRelvar) → is_log e.1 ≡ true → Sayable e
 log-sayable (name, base value constraints) is = absurd (true≢false (sym is))
-log-sayable (name, view t history) is = absurd (true≢false (sym is))
+log-sayable (name, view t kind) is = absurd (true≢false (sym is))
 log-sayable (name, log o k last w) is = tt
 
 -- what a state is made of, its limits aside

@@ -17,7 +17,7 @@ use Rattle.point_core.specs.declared.fault.Place.{Place}
 use Rattle.value_core.specs.declared.list.OrdinalNames.{OrdinalNames}
 use Rattle.value_core.specs.Limits.{most_ordinal_types, most_relvars, most_nodes, most_rules}
 use Rattle.value_core.specs.Values.{Name}
-use Rattle.tree_core.specs.Relvars.{State, PlainRelvar, base, view, Entries, log}
+use Rattle.tree_core.specs.Relvars.{State, PlainRelvar, base, view, Entries, log, derived}
 use Rattle.tree_core.specs.Trees.{Tree, Test}
 use Rattle.meaning_core.specs.Typing.{IsTypedTree}
 use Rattle.meaning_core.specs.WellMade.{sizes_of, headings_of, IsRelvar, AreRelvars, IsWellMade, IsTypedFor, IsTypedTestFor}
@@ -73,16 +73,16 @@ module _ (w : State) (ds : List Said) (made : IsMadeOf w ds) (well : IsWellMade 
 
   pub view-typed : (name : Name) (t : Tree) → In (said_view name t) ds → IsTypedFor w t
   view-typed name t i =
-      let z = entry-in w ds (listed-of w ds made) (name, view t None) (said_view name t) i (inl refl) in
+      let z = entry-in w ds (listed-of w ds made) (name, view t derived) (said_view name t) i (inl refl) in
       from z.0 z.1 (ap (λ (x : Name × PlainRelvar). x.1) z.2)
     where
-      from : (x : Name × PlainRelvar) → In x w.relvars → view t None ≡ (emptied x).1 → IsTypedFor w t
+      from : (x : Name × PlainRelvar) → In x w.relvars → view t derived ≡ (emptied x).1 → IsTypedFor w t
       from (n, base v c) j e = absurd (cc)
       from (n, log o k last w) j e = absurd (cc)
-      from (n, view u history) j e =
+      from (n, view u kind) j e =
           let same : t ≡ u = cc in
-          let here = entry-typed (n, view u history) j in
-          let typed = tree-behind (sizes_of w.ordinals) here.0 ((n, view u history) ∷ here.1) u here.3.0 in
+          let here = entry-typed (n, view u kind) j in
+          let typed = tree-behind (sizes_of w.ordinals) here.0 ((n, view u kind) ∷ here.1) u here.3.0 in
           subst (λ (k : Tree). IsTypedFor w k) (sym same) (subst (λ (es : Entries). IsTypedTree (sizes_of w.ordinals) (headings_of es) u) (sym here.2) typed)
 
   pub rule-typed : (name : Name) (t : Test) → In (said_rule name t) ds → IsTypedTestFor w t

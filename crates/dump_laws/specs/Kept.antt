@@ -12,7 +12,7 @@ use Rattle.point_core.specs.declared.fault.Place.{Place}
 use Rattle.value_core.specs.declared.list.OrdinalNames.{OrdinalNames}
 use Rattle.value_core.specs.Limits.{most_statement_bytes, most_relvars, most_ordinal_types, most_rules, most_nodes}
 use Rattle.value_core.specs.Values.{Name}
-use Rattle.tree_core.specs.Relvars.{State, PlainRelvar, base, view, log}
+use Rattle.tree_core.specs.Relvars.{State, PlainRelvar, base, view, log, derived, stored, of_history}
 use Rattle.declaration_typing.specs.Nodes.{nodes_of, test_nodes}
 use Rattle.dump_core.specs.declared.texts.TextKind.{TextKind}
 use Rattle.dump_core.specs.declared.texts.TextKind.TheVariants.{Early, View, Rule}
@@ -71,15 +71,17 @@ AreTexts w texts ds = AreTextsFrom w [] texts ds
 -- a base relvar, or the view of a history
 abbrev pub is_early_relvar : PlainRelvar → Bool
 is_early_relvar (base value constraints) = true
-is_early_relvar (view t None) = false
-is_early_relvar (view t (Some names)) = true
+is_early_relvar (view t derived) = false
+is_early_relvar (view t stored) = false
+is_early_relvar (view t (of_history names)) = true
 is_early_relvar (log of side last value) = false
 
 -- a view that is no history's
 abbrev pub is_late_relvar : PlainRelvar → Bool
 is_late_relvar (base value constraints) = false
-is_late_relvar (view t None) = true
-is_late_relvar (view t (Some names)) = false
+is_late_relvar (view t derived) = true
+is_late_relvar (view t stored) = true
+is_late_relvar (view t (of_history names)) = false
 is_late_relvar (log of side last value) = false
 
 abbrev pub is_early : Name × PlainRelvar → Bool

@@ -35,7 +35,7 @@ IsSayableType o = IsSayable o.name × All IsSayable o.values
 -- a relvar's name and those of its attributes, and the name of a view; a log stands in no text
 abbrev pub IsSayableRelvar : Name → PlainRelvar → Type 0
 IsSayableRelvar name (base value constraints) = IsSayable name × AreSayableIn value.heading
-IsSayableRelvar name (view t history) = IsSayable name
+IsSayableRelvar name (view t kind) = IsSayable name
 IsSayableRelvar name (log of side last value) = Unit {0}
 
 pub record HasSayableNames (w : State) : Type 0 where

@@ -24,7 +24,7 @@ Target = Name × Heading
 -- E20 at a view or a log
 abbrev pub base_heading : Place → PlainRelvar → OrFault Heading
 base_heading place (base value constraints) = Ok value.heading
-base_heading place (view t history) = refused place E20
+base_heading place (view t kind) = refused place E20
 base_heading place (log of side last value) = refused place E20
 
 -- E10 at a name that is no relvar, view or log, E20 at that of a view or a log

@@ -20,7 +20,7 @@ use relation_typing::{empty_heading, name_typed};
 use scalar_core::Scalar;
 use scalar_typing::{same_kind, type_scalar};
 use std::alloc::Global;
-use tree_core::{Item, ItemForm, Relvar, Relvars, rule_if};
+use tree_core::{Item, ItemForm, Relvar, Relvars, ViewKind, rule_if};
 use utd_syntax as syntax;
 use utd_syntax::{Condition, Word};
 use value_core::{Heading, HistoryRule, Kind, Name, OrdinalTypes};
@@ -39,7 +39,7 @@ fn history_typed(place: Place, relvar: &Relvar) -> Result<&(Name, Name), Fault>
     match relvar {
         Relvar::View {
             tree: _,
-            history: Some(names),
+            kind: ViewKind::OfHistory(names),
         } => Ok(names),
         _ => Err(Fault {
             place,

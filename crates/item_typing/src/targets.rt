@@ -45,11 +45,7 @@ fn base_heading(place: Place, relvar: &Relvar) -> Result<&Heading, Fault>
             value,
             constraints: _,
         } => Ok(value.heading()),
-        Relvar::View {
-            tree: _,
-            history: _,
-        }
-        | Relvar::Log { of: _, log: _ } => Err(Fault {
+        Relvar::View { tree: _, kind: _ } | Relvar::Log { of: _, log: _ } => Err(Fault {
             place,
             code: Code::E20,
         }),

@@ -26,7 +26,7 @@ use Rattle.log_laws.proofs.RowLengths.{HaveLength, long-set, long-put, AreKnownL
 
 abbrev pub IsLong : PlainRelvar → Type 0
 IsLong (base value constraints) = HaveLength (length value.heading) value.rows
-IsLong (view t history) = Unit {0}
+IsLong (view t kind) = Unit {0}
 IsLong (log of side last value) = HaveLength (length value.heading) value.rows
 
 abbrev pub AreLong : Entries → Type 0
@@ -64,7 +64,7 @@ module _ (sizes : List ℕ) where
   one-long : (headings : Headings) (known : Known) → AreKnownLong headings known → (before : Entries) → headings ≡ headings_of before → (own : Name) (r : PlainRelvar) → IsRelvar sizes before own r → IsLong r
       → (rows : List Row) → relvar_meaning known r ≡ Ok rows → HaveLength (length (relvar_heading r)) rows
   one-long headings known knows before same own (base value constraints) is long rows e = let are : value.rows ≡ rows = cc in subst (HaveLength (length value.heading)) are long
-  one-long headings known knows before same own (view t history) is long rows e =
+  one-long headings known knows before same own (view t kind) is long rows e =
       meaning-long sizes headings known knows plainly t (subst (λ (hs : Headings). IsTypedTree sizes hs t) (sym same) is.0) rows e
   one-long headings known knows before same own (log of side last value) is long rows e = let are : value.rows ≡ rows = cc in subst (HaveLength (length value.heading)) are long
 
@@ -107,7 +107,7 @@ long-some p (e ∷ es) h = by (p e) (long-some p es h.1)
 
 long-with : (value : Relation) (r : PlainRelvar) → HaveLength (length value.heading) value.rows → IsLong r → IsLong (with_value value r)
 long-with value (base old constraints) long h = long
-long-with value (view t history) long h = tt
+long-with value (view t kind) long h = tt
 long-with value (log of side last old) long h = h
 
 pub long-given : (name : Name) (value : Relation) (es : Entries) → HaveLength (length value.heading) value.rows → AreLong es → AreLong (given (Some name) (Some value) es)
@@ -136,7 +136,7 @@ long-named (e ∷ es) name h = by (bytes_eq e.0 name) (long-named es name h.1)
 pub long-base : (o : Option PlainRelvar) → IsLongIf o → HaveLength (length (heading_if o)) (base_rows o)
 long-base None h x i = absurd i
 long-base (Some (base value constraints)) h x i = h x i
-long-base (Some (view t history)) h x i = absurd i
+long-base (Some (view t kind)) h x i = absurd i
 long-base (Some (log of side last value)) h x i = absurd i
 
 pub long-without : (side : ℕ) (heading : Heading) → side < length heading → length heading ≡ suc (length (without side heading))

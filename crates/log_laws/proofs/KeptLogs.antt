@@ -56,7 +56,7 @@ logs-left some es name r e = by (some name) refl
 one-given : (value : Relation) (b : Bool) (r : PlainRelvar) (of : Name) (side : ℕ) (last : ℤ) (own : Relation) → cond b (with_value value r) r ≡ log of side last own → r ≡ log of side last own
 one-given value false r of side last own e = e
 one-given value true (base old constraints) of side last own e = absurd (cc)
-one-given value true (view t history) of side last own e = absurd (cc)
+one-given value true (view t kind) of side last own e = absurd (cc)
 one-given value true (log source place number old) of side last own e = e
 
 -- the logs where a relvar has another value

@@ -21,7 +21,7 @@ use Rattle.log_laws.proofs.EntryLengths.{IsLong, AreLong, long-named, long-base,
 -- of a log: it is that of a base relvar
 abbrev IsLogIn : Entries → PlainRelvar → Type 0
 IsLogIn all (base value constraints) = Unit {0}
-IsLogIn all (view t history) = Unit {0}
+IsLogIn all (view t kind) = Unit {0}
 IsLogIn all (log of side last value) = IsLogOf all of side value.heading
 
 base-behind : (before more : Entries) (of : Name) (o : Option PlainRelvar) → relvar_named before of ≡ o → IsBase o → relvar_named (before ++ more) of ≡ o
@@ -35,7 +35,7 @@ log-behind before more of side heading is =
 
 entry-behind : (sizes : List ℕ) (before more : Entries) (own : Name) (r : PlainRelvar) → IsRelvar sizes before own r → IsLogIn (before ++ more) r
 entry-behind sizes before more own (base value constraints) is = tt
-entry-behind sizes before more own (view t history) is = tt
+entry-behind sizes before more own (view t kind) is = tt
 entry-behind sizes before more own (log of side last value) is = log-behind before more of side value.heading is.1
 
 logs-behind : (sizes : List ℕ) (before es : Entries) → AreRelvars sizes before es → AllByRecursion (λ (e : Name × PlainRelvar). IsLogIn (before ++ es) e.1) es
@@ -69,7 +69,7 @@ log-of sizes es all name of side last value e = subst (IsSoIf (IsLogIn es)) e (s
 
 one-turned : (all : Entries) → AreLong all → (r : PlainRelvar) → IsLogIn all r → IsLong r → IsLong (turned_relvar all r)
 one-turned all longs (base value constraints) is long = long
-one-turned all longs (view t history) is long = tt
+one-turned all longs (view t kind) is long = tt
 one-turned all longs (log of side last value) is long =
     let size : length value.heading ≡ suc (length (without side value.heading)) = long-without side value.heading is.1.within in
     let now : HaveLength (length (heading_if (relvar_named all of))) (base_rows (relvar_named all of)) = long-base (relvar_named all of) (long-named all of longs) in
@@ -110,7 +110,7 @@ turned-from all name of side last value e = by (relvar_named all name) refl (sym
     by : (o : Option PlainRelvar) → relvar_named all name ≡ o → option_map (turned_relvar all) o ≡ Some (log of side last value) → WasLog all name of side last value
     by None q f = absurd (cc)
     by (Some (base own constraints)) q f = absurd (cc)
-    by (Some (view t history)) q f = absurd (cc)
+    by (Some (view t kind)) q f = absurd (cc)
     by (Some (log source place number own)) q f =
         let made : Relation = record own { rows = moved place (number +ℤ pos 1) (base_rows (relvar_named all source)) own.rows } in
         let one : log source place (number +ℤ pos 1) made ≡ log of side last value = cc in

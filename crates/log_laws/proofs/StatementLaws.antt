@@ -14,7 +14,7 @@ use Rattle.value_core.specs.declared.refuse.Refuse.TheVariants.{Broken, Plain as
 use Rattle.value_core.specs.Values.{Name, Heading, Relation}
 use Rattle.tree_core.specs.declared.declaration.LogData.{LogData}
 use Rattle.tree_core.specs.Items.{PlainItem, PlainAssignment}
-use Rattle.tree_core.specs.Relvars.{State, PlainRelvar, base, view, log, Entries, relvar_named, heading_if}
+use Rattle.tree_core.specs.Relvars.{State, PlainRelvar, base, view, log, Entries, relvar_named, heading_if, of_history}
 use Rattle.tree_core.specs.Trees.{Test, heading_of}
 use Rattle.tree_core.specs.Uses.{is_one_of}
 use Rattle.meaning_core.specs.Declarations.{PlainDeclaration, ordinal_type, base_relvar, view_relvar, with_declaration, group, without_group, with_rule, without_rule, with_log}
@@ -88,7 +88,7 @@ module _ (s : State) (made : IsWellMade s) (longs : AreLong s.relvars) where
       by : (o : Option PlainRelvar) → heading_if o ≡ heading_if (relvar_named s.relvars name) → IsLongIf o → IsLikewise (given (Some name) (value_if o) s.relvars)
       by None headed long = subst IsLikewise (sym (given-nothing name s.relvars)) own
       by (Some (base value constraints)) headed long = with-given s.relvars name value own headed long
-      by (Some (view t history)) headed long = subst IsLikewise (sym (given-nothing name s.relvars)) own
+      by (Some (view t kind)) headed long = subst IsLikewise (sym (given-nothing name s.relvars)) own
       by (Some (log of side last value)) headed long = subst IsLikewise (sym (given-nothing name s.relvars)) own
 
   -- the value of a source has the heading of its tree, and a value for each attribute
@@ -145,7 +145,7 @@ module _ (w : State) (made : IsWellMade w) (longs : AreLong w.relvars) where
     count = refl;
     logs = λ n of side last value e. inl (logs-more w.relvars _ refl n of side last value e);
   }
-  declared-so (view_relvar name t history) then = record {
+  declared-so (view_relvar name t kind) then = record {
     made = then;
     long = long-more w.relvars _ longs (tt, tt);
     count = refl;
@@ -212,7 +212,7 @@ module _ (w : State) (made : IsWellMade w) (longs : AreLong w.relvars) where
   history-so h then =
       let since : Entries = (h.since, base (record { heading = since_heading h; rows = [] }) (since_constraints h)) ∷ [] in
       let during : Entries = (h.during, base (record { heading = during_heading h; rows = [] }) (during_constraints h)) ∷ [] in
-      let joined : Entries = (h.view, view (view_of h) (Some (h.since, h.during))) ∷ [] in
+      let joined : Entries = (h.view, view (view_of h) (of_history (h.since, h.during))) ∷ [] in
       record {
         made = then;
         long =

@@ -22,7 +22,7 @@ made-counted s n made = record {
 
 bare-one : (all : Entries) (r : PlainRelvar) → bare (turned_relvar all r) ≡ bare r
 bare-one all (base value constraints) = refl
-bare-one all (view t history) = refl
+bare-one all (view t kind) = refl
 bare-one all (log of side last value) = refl
 
 pub bare-turned : (entries : Entries) → bare_all (turned_logs entries) ≡ bare_all entries

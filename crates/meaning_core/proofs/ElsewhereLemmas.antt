@@ -142,7 +142,7 @@ module _ (some : Name → Bool) where
   -- whether a view's expression itself names one of some
   abbrev pub view_names : PlainRelvar → Bool
   view_names (base value constraints) = false
-  view_names (view t history) = names_any some t
+  view_names (view t kind) = names_any some t
   view_names (log of side last value) = false
 
   abbrev pub IsApart : Entries → Type 0
@@ -151,7 +151,7 @@ module _ (some : Name → Bool) where
 
   relvar-same : (known : Known) (r : PlainRelvar) → view_names r ≡ false → relvar_meaning known r ≡ relvar_meaning (left known) r
   relvar-same known (base value constraints) none = refl
-  relvar-same known (view t history) none = meaning-agrees known (left known) (λ name q. found-left (Ok []) known name q) plainly t none
+  relvar-same known (view t kind) none = meaning-agrees known (left known) (λ name q. found-left (Ok []) known name q) plainly t none
   relvar-same known (log of side last value) none = refl
 
   module _ {A : Type 0} (of : List (Name × A) → PlainRelvar → A) (same : (known : List (Name × A)) (r : PlainRelvar) → view_names r ≡ false → of known r ≡ of (left known) r) where
@@ -280,7 +280,7 @@ module _ (some : Name → Bool) where
 
   relvar-names : (sizes : List ℕ) (before : Entries) (own : Name) (r : PlainRelvar) → IsClear (headings_of before) → IsRelvar sizes before own r → view_names r ≡ false
   relvar-names sizes before own (base value constraints) clear is = refl
-  relvar-names sizes before own (view t history) clear is = typed-names sizes (headings_of before) clear t is.0
+  relvar-names sizes before own (view t kind) clear is = typed-names sizes (headings_of before) clear t is.0
   relvar-names sizes before own (log of side last value) clear is = refl
 
   pub apart-left : (sizes : List ℕ) (es before : Entries) → IsClear (headings_of before) → AreRelvars sizes before (left es) → IsApart es

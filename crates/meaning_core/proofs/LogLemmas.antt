@@ -58,7 +58,7 @@ module _ (all : Entries) where
   one-agrees : (qs : List Both) → Agree qs → (r : PlainRelvar) → is_over_log (map flag qs) r ≡ false
       → relvar_meaning (map earlier qs) r ≡ relvar_meaning (map later qs) (turned_relvar all r)
   one-agrees qs h (base value constraints) none = refl
-  one-agrees qs h (view t history) none = meaning-agrees (found false (map flag qs)) (map earlier qs) (map later qs) (agree-found qs h) plainly t none
+  one-agrees qs h (view t kind) none = meaning-agrees (found false (map flag qs)) (map earlier qs) (map later qs) (agree-found qs h) plainly t none
   one-agrees qs h (log of side last value) none = absurd (true≢false none)
 
   through : (qs : List Both) (es : Entries) → Agree qs
@@ -99,7 +99,7 @@ apart-appended sizes es more t is none =
 module _ (some : Name → Bool) where
   over-same : (known : List (Name × Bool)) (r : PlainRelvar) → view_names some r ≡ false → is_over_log known r ≡ is_over_log (left some known) r
   over-same known (base value constraints) none = refl
-  over-same known (view t history) none = names-alike some (found false known) (found false (left some known)) (λ name q. found-left some false known name q) t none
+  over-same known (view t kind) none = names-alike some (found false known) (found false (left some known)) (λ name q. found-left some false known name q) t none
   over-same known (log of side last value) none = refl
 
   over-left : (es : Entries) → IsApart some es → (name : Name) → some name ≡ false → over_log (left some es) name ≡ over_log es name
@@ -119,7 +119,7 @@ module _ (some : Name → Bool) where
 
 turned-other : (all : Entries) (r : PlainRelvar) → is_log r ≡ false → turned_relvar all r ≡ r
 turned-other all (base value constraints) none = refl
-turned-other all (view t history) none = refl
+turned-other all (view t kind) none = refl
 turned-other all (log of side last value) none = absurd (true≢false none)
 
 pub turned-none : (es : Entries) → has_log es ≡ false → turned_logs es ≡ es

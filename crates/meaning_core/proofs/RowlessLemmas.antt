@@ -4,7 +4,7 @@
 --     bare-keeps      a state stays well made where its relvars differ in their rows alone
 --     heading-keeps, is_base-keeps      the same is looked up in states that differ so
 --     is_given-keeps      and the same may be given in place of a value
-use Rattle.std.proofs.Common.{◌≡◌, ℕ, Bool, true, false, List, [], ◌∷◌, ◌++◌, map, cond, refl, sym, ap, ap₂, ◌∙◌, subst, IsTrue, Option, Some, None, option_map}
+use Rattle.std.proofs.Common.{◌≡◌, ℕ, Bool, true, false, not, List, [], ◌∷◌, ◌++◌, map, cond, refl, sym, ap, ap₂, ◌∙◌, subst, IsTrue, Option, Some, None, option_map}
 use Rattle.std.specs.Prelude.{pos}
 use Rattle.std.specs.List.{All, IsDistinct}
 use Rattle.std.specs.Str.{bytes_eq}
@@ -14,21 +14,22 @@ use Rattle.value_core.specs.declared.constraint.Constraint.{Constraint}
 use Rattle.value_core.specs.declared.constraint.Constraint.TheVariants.{Key, Packed, WhenUnpacked, UKey, Foreign, History}
 use Rattle.value_core.specs.declared.constraint.HistoryRule.{HistoryRule}
 use Rattle.value_core.specs.Values.{Name, Heading, Relation}
-use Rattle.tree_core.specs.Relvars.{PlainRelvar, base, view, Entries, State, relvar_named, relvar_heading, heading_if, constraints_if, rule_among, log}
+use Rattle.tree_core.specs.Relvars.{PlainKind, derived, of_history, stored, PlainRelvar, base, view, Entries, State, relvar_named, relvar_heading, heading_if, constraints_if, rule_among, log}
 use Rattle.log_times.specs.Turns.{IsLogHeading, without}
 use Rattle.tree_core.specs.Trees.{Tree, named}
-use Rattle.tree_core.specs.Uses.{test_names_any}
+use Rattle.tree_core.specs.Uses.{names_any, test_names_any}
 use Rattle.meaning_core.specs.Logs.{is_over_log, over_log}
 use Rattle.meaning_core.specs.Histories.{joined_history, last_point, type_at, name_at}
 use Rattle.meaning_core.specs.Names.{found, each_after, with_value}
+use Rattle.meaning_core.specs.StoredViews.{is_stored_form}
 use Rattle.meaning_core.specs.Typing.{Headings, is_declared, IsTypedTree, IsTypedTest}
-use Rattle.meaning_core.specs.WellMade.{sizes_of, headings_of, IsBase, FitsHeadings, FitsNamed, IsConstraint, IsOfRule, IsHistory, IsRelvar, AreRelvars, IsWellMade, IsGiven, IsLogOf}
+use Rattle.meaning_core.specs.WellMade.{sizes_of, headings_of, IsBase, FitsHeadings, FitsNamed, IsConstraint, IsOfRule, is_base, is_base_in, IsOfKind, IsRelvar, AreRelvars, IsWellMade, IsGiven, IsLogOf}
 
 -- ---- relvars without their rows
 
 abbrev pub bare : PlainRelvar → PlainRelvar
 bare (base value constraints) = base (record { heading = value.heading; rows = [] }) constraints
-bare (view t history) = view t history
+bare (view t kind) = view t kind
 bare (log of side last value) = log of side (pos 0) (record { heading = value.heading; rows = [] })
 
 abbrev pub bare_entry : Name × PlainRelvar → Name × PlainRelvar
@@ -41,7 +42,7 @@ bare_all entries = map bare_entry entries
 
 over-one : (known : List (Name × Bool)) (r : PlainRelvar) → is_over_log known (bare r) ≡ is_over_log known r
 over-one known (base value constraints) = refl
-over-one known (view t history) = refl
+over-one known (view t kind) = refl
 over-one known (log of side last value) = refl
 
 over-bare : (known : List (Name × Bool)) (entries : Entries) → each_after is_over_log known (bare_all entries) ≡ each_after is_over_log known entries
@@ -59,7 +60,7 @@ over-keeps entries old e =
 
 pub heading-bare : (r : PlainRelvar) → relvar_heading (bare r) ≡ relvar_heading r
 heading-bare (base value constraints) = refl
-heading-bare (view t history) = refl
+heading-bare (view t kind) = refl
 heading-bare (log of side last value) = refl
 
 pub headings-bare : (entries : Entries) → headings_of (bare_all entries) ≡ headings_of entries
@@ -86,13 +87,13 @@ heading_if-bare (Some r) = heading-bare r
 constraints_if-bare : (o : Option PlainRelvar) → constraints_if (option_map bare o) ≡ constraints_if o
 constraints_if-bare None = refl
 constraints_if-bare (Some (base value constraints)) = refl
-constraints_if-bare (Some (view t history)) = refl
+constraints_if-bare (Some (view t kind)) = refl
 constraints_if-bare (Some (log of side last value)) = refl
 
 IsBase-bare : (o : Option PlainRelvar) → IsBase (option_map bare o) ≡ IsBase o
 IsBase-bare None = refl
 IsBase-bare (Some (base value constraints)) = refl
-IsBase-bare (Some (view t history)) = refl
+IsBase-bare (Some (view t kind)) = refl
 IsBase-bare (Some (log of side last value)) = refl
 
 pub heading_named-bare : (entries : Entries) (name : Name) → heading_if (relvar_named (bare_all entries) name) ≡ heading_if (relvar_named entries name)
@@ -131,9 +132,20 @@ IsOfRule-bare : (before : Entries) (s d : Name) (t : Tree) (rule : Option Histor
 IsOfRule-bare before s d t None = refl
 IsOfRule-bare before s d t (Some rule) = ap₂ (IsMade s d t rule) (heading_named-bare before s) (heading_named-bare before d)
 
-IsHistory-bare : (before : Entries) (t : Tree) (history : Option (Name × Name)) → IsHistory (bare_all before) t history ≡ IsHistory before t history
-IsHistory-bare before t None = refl
-IsHistory-bare before t (Some names) =
+-- a base relvar is one without its rows too
+base-bare : (o : Option PlainRelvar) → is_base (option_map bare o) ≡ is_base o
+base-bare None = refl
+base-bare (Some (base value constraints)) = refl
+base-bare (Some (view t kind)) = refl
+base-bare (Some (log of side last value)) = refl
+
+base_in-bare : (before : Entries) (name : Name) → is_base_in (bare_all before) name ≡ is_base_in before name
+base_in-bare before name = ap is_base (named-bare before name) ∙ base-bare (relvar_named before name)
+
+IsOfKind-bare : (before : Entries) (t : Tree) (kind : PlainKind) → IsOfKind (bare_all before) t kind ≡ IsOfKind before t kind
+IsOfKind-bare before t derived = refl
+IsOfKind-bare before t stored = λ i. IsTrue (is_stored_form t) × (names_any (λ name. not (base_in-bare before name i)) t ≡ false)
+IsOfKind-bare before t (of_history names) =
     let rule = ap (λ c. IsOfRule (bare_all before) names.0 names.1 t (rule_among c)) (constraints_named-bare before names.1)
     ∙ IsOfRule-bare before names.0 names.1 t (rule_among (constraints_if (relvar_named before names.1))) in
     λ i. is_base-bare before names.0 i × is_base-bare before names.1 i × rule i
@@ -144,7 +156,7 @@ IsLogOf-bare before of side h = λ i. is_base-bare before of i × IsLogHeading s
 IsRelvar-bare : (sizes : List ℕ) (before : Entries) (own : Name) (r : PlainRelvar) → IsRelvar sizes (bare_all before) own (bare r) ≡ IsRelvar sizes before own r
 IsRelvar-bare sizes before own (base value constraints) =
     λ i. IsTrue (is_declared sizes value.heading) × All (λ c. IsConstraint-bare before own (base value constraints) c i) constraints
-IsRelvar-bare sizes before own (view t history) = λ i. IsTypedTree sizes (headings-bare before i) t × IsHistory-bare before t history i
+IsRelvar-bare sizes before own (view t kind) = λ i. IsTypedTree sizes (headings-bare before i) t × IsOfKind-bare before t kind i
 IsRelvar-bare sizes before own (log of side last value) = λ i. IsTrue (is_declared sizes value.heading) × IsLogOf-bare before of side value.heading i
 
 AreRelvars-bare : (sizes : List ℕ) (before entries : Entries) → AreRelvars sizes (bare_all before) (bare_all entries) ≡ AreRelvars sizes before entries
@@ -184,7 +196,7 @@ bare-keeps s entries e h =
 
 pub bare-with_value : (value : Relation) (r : PlainRelvar) → value.heading ≡ relvar_heading r → bare (with_value value r) ≡ bare r
 bare-with_value value (base old constraints) e = ap (λ (h : Heading). base (record { heading = h; rows = [] }) constraints) e
-bare-with_value value (view t history) e = refl
+bare-with_value value (view t kind) e = refl
 bare-with_value value (log of side last old) e = refl
 
 -- what is given in one of two states that differ in their rows alone is given in the other

@@ -12,7 +12,7 @@ use Rattle.value_core.specs.Values.{Name, Heading}
 use Rattle.tree_core.specs.declared.declaration.Declaration.{Declaration}
 use Rattle.tree_core.specs.declared.declaration.LogData.{LogData}
 use Rattle.tree_core.specs.declared.declaration.Declaration.TheVariants as variants
-use Rattle.tree_core.specs.Relvars.{State, PlainRelvar, base, view, Entries, relvar_named, heading_if, history_if}
+use Rattle.tree_core.specs.Relvars.{State, PlainKind, derived, of_history, PlainRelvar, base, view, Entries, relvar_named, heading_if, history_if}
 use Rattle.tree_core.specs.Trees.{Tree, Test, read_tree}
 use Rattle.tree_core.specs.Uses.{is_one_of}
 use Rattle.meaning_core.specs.Logs.{new_log, turned_logs}
@@ -20,13 +20,13 @@ use Rattle.meaning_core.specs.Logs.{new_log, turned_logs}
 pub data PlainDeclaration : Type 0 where
   ordinal_type : Name → List Name → PlainDeclaration
   base_relvar : Name → Heading → List Constraint → PlainDeclaration
-  view_relvar : Name → Tree → Option (Name × Name) → PlainDeclaration
+  view_relvar : Name → Tree → PlainKind → PlainDeclaration
 
 abbrev pub read_declaration : Declaration → PlainDeclaration
 read_declaration (variants.Ordinal name values) = ordinal_type name values
 read_declaration (variants.Base name heading constraints) = base_relvar name heading constraints
-read_declaration (variants.View name tree) = view_relvar name (read_tree tree) None
-read_declaration (variants.HistoryView name tree since during) = view_relvar name (read_tree tree) (Some (since, during))
+read_declaration (variants.View name tree) = view_relvar name (read_tree tree) derived
+read_declaration (variants.HistoryView name tree since during) = view_relvar name (read_tree tree) (of_history (since, during))
 
 -- the state with one relvar or view more
 abbrev pub with_relvar : State → Name → PlainRelvar → State
@@ -35,7 +35,7 @@ with_relvar s name r = record s { relvars = s.relvars ++ (name, r) ∷ [] }
 abbrev pub with_declaration : State → PlainDeclaration → State
 with_declaration s (ordinal_type name values) = record s { ordinals = s.ordinals ++ record { name = name; values = values } ∷ [] }
 with_declaration s (base_relvar name heading constraints) = with_relvar s name (base (record { heading = heading; rows = [] }) constraints)
-with_declaration s (view_relvar name t history) = with_relvar s name (view t history)
+with_declaration s (view_relvar name t kind) = with_relvar s name (view t kind)
 
 -- the state with a log that tells nothing yet
 abbrev pub with_log : State → LogData → State

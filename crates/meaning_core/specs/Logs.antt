@@ -18,7 +18,7 @@ use Rattle.meaning_core.specs.Names.{found, each_in}
 
 abbrev pub is_log : PlainRelvar → Bool
 is_log (base value constraints) = false
-is_log (view t history) = false
+is_log (view t kind) = false
 is_log (log of side last value) = true
 
 abbrev pub has_log : Entries → Bool
@@ -28,7 +28,7 @@ has_log entries = list_any (λ r. is_log r.1) entries
 abbrev pub base_rows : Option PlainRelvar → List Row
 base_rows None = []
 base_rows (Some (base value constraints)) = value.rows
-base_rows (Some (view t history)) = []
+base_rows (Some (view t kind)) = []
 base_rows (Some (log of side last value)) = []
 
 -- ---- one statement more
@@ -36,7 +36,7 @@ base_rows (Some (log of side last value)) = []
 -- a log after one statement more, after which these are the relvars
 abbrev pub turned_relvar : Entries → PlainRelvar → PlainRelvar
 turned_relvar entries (base value constraints) = base value constraints
-turned_relvar entries (view t history) = view t history
+turned_relvar entries (view t kind) = view t kind
 turned_relvar entries (log of side last value) =
     log of side (last +ℤ pos 1) (record value { rows = moved side (last +ℤ pos 1) (base_rows (relvar_named entries of)) value.rows })
 
@@ -48,7 +48,7 @@ turned_logs entries = map (λ r. (r.0, turned_relvar entries r.1)) entries
 -- a log's last statement is this one, and it tells its relvar's rows after it
 abbrev pub IsInStep : ℤ → Entries → PlainRelvar → Type 0
 IsInStep n entries (base value constraints) = Unit {0}
-IsInStep n entries (view t history) = Unit {0}
+IsInStep n entries (view t kind) = Unit {0}
 IsInStep n entries (log of side last value) = (last ≡ n) × (value_after side last value.rows ≡ base_rows (relvar_named entries of))
 
 abbrev pub AreInStep : ℤ → Entries → Type 0
@@ -65,7 +65,7 @@ new_log heading last d = log d.of (side_of heading d.attribute) last (record { h
 -- whether the relvar is a log or a view that names one, where it is known of the names before it whether they stand for such
 abbrev pub is_over_log : List (Name × Bool) → PlainRelvar → Bool
 is_over_log known (base value constraints) = false
-is_over_log known (view t history) = names_any (found false known) t
+is_over_log known (view t kind) = names_any (found false known) t
 is_over_log known (log of side last value) = true
 
 -- whether the name stands for a log, or for a view over one

@@ -125,7 +125,7 @@ meaning known around (using place heading commalist t) = meaning known (in_using
 -- what a relvar means, where the names before it mean that
 abbrev pub relvar_meaning : Known → PlainRelvar → RowsMeant
 relvar_meaning known (base value constraints) = Ok value.rows
-relvar_meaning known (view t history) = meaning known plainly t
+relvar_meaning known (view t kind) = meaning known plainly t
 relvar_meaning known (log of side last value) = Ok value.rows
 
 -- the meanings of all relvars and views, each view's from those before it

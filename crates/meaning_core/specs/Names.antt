@@ -27,7 +27,7 @@ module _ {A : Type 0} where
 
 abbrev pub with_value : Relation → PlainRelvar → PlainRelvar
 with_value value (base old constraints) = base value constraints
-with_value value (view t history) = view t history
+with_value value (view t kind) = view t kind
 with_value value (log of side last old) = log of side last old
 
 -- what an entry is, where the named relvar has the value, if both are given

@@ -21,7 +21,7 @@ nodes (using place h commalist t) = nodes t + 1
 
 abbrev pub relvar_nodes : PlainRelvar → ℕ
 relvar_nodes (base value constraints) = 0
-relvar_nodes (view t history) = nodes t
+relvar_nodes (view t kind) = nodes t
 relvar_nodes (log of side last value) = 0
 
 -- how many nodes the views have together

@@ -1,5 +1,5 @@
 -- Well made states: what declarations keep. And what is typed for a state.
-use Rattle.std.specs.Prelude.{◌≡◌, ℕ, ◌<◌, ◌≤◌, false, List, [], ◌∷◌, ◌++◌, map, length, nat_eq, Option, Some, None, IsTrue}
+use Rattle.std.specs.Prelude.{◌≡◌, ℕ, ◌<◌, ◌≤◌, Bool, true, false, not, List, [], ◌∷◌, ◌++◌, map, length, nat_eq, Option, Some, None, IsTrue}
 use Rattle.std.specs.List.{list_all, All, IsDistinct}
 use Rattle.std.specs.Str.{bytes_eq}
 use Rattle.point_core.specs.declared.fault.Place.{Place}
@@ -14,11 +14,12 @@ use Rattle.value_core.specs.Limits.{most_ordinal_types, most_ordinal_values, mos
 use Rattle.value_core.specs.Values.{Name, Heading, Relation}
 use Rattle.relation_core.specs.Parts.{kind_at}
 use Rattle.log_times.specs.Turns.{IsLogHeading, without}
-use Rattle.tree_core.specs.Relvars.{PlainRelvar, base, view, Entries, State, relvar_named, relvar_heading, heading_if, constraints_if, rule_among, log}
+use Rattle.tree_core.specs.Relvars.{PlainKind, derived, of_history, stored, PlainRelvar, base, view, Entries, State, relvar_named, relvar_heading, heading_if, constraints_if, rule_among, log}
 use Rattle.tree_core.specs.Trees.{Tree, Test, named}
-use Rattle.tree_core.specs.Uses.{test_names_any}
+use Rattle.tree_core.specs.Uses.{names_any, test_names_any}
 use Rattle.meaning_core.specs.Histories.{joined_history, last_point, type_at, name_at}
 use Rattle.meaning_core.specs.Logs.{over_log}
+use Rattle.meaning_core.specs.StoredViews.{is_stored_form}
 use Rattle.meaning_core.specs.Typing.{Headings, IsList, is_declared, IsTypedTree, IsTypedTest}
 
 -- how many values each ordinal type has
@@ -80,7 +81,7 @@ FitsHeadings h g (History r) =
 abbrev pub IsBase : Option PlainRelvar → Type 0
 IsBase None = ⊥
 IsBase (Some (base value constraints)) = Unit {0}
-IsBase (Some (view t history)) = ⊥
+IsBase (Some (view t kind)) = ⊥
 IsBase (Some (log of side last value)) = ⊥
 
 -- the named relvar is a base relvar, whose heading the constraint fits too
@@ -94,7 +95,7 @@ IsConstraint before own r (Foreign commalist k name there) =
 IsConstraint before own r (History rule) = FitsNamed before (relvar_heading r) rule.since (History rule)
 IsConstraint before own r c = FitsHeadings (relvar_heading r) [] c
 
--- ---- views of histories
+-- ---- what views keep
 
 -- the view of a history is what its relvars and their rule make it
 abbrev pub IsOfRule : Entries → Name → Name → Tree → Option HistoryRule → Type 0
@@ -106,9 +107,23 @@ IsOfRule before s d t (Some rule) =
     (place : Place) × (rule.since ≡ s)
     × (t ≡ joined_history place place over (name_at since rule.point_there) (name_at during rule.span_here) d since during (last_point place over) (named place since s))
 
-abbrev pub IsHistory : Entries → Tree → Option (Name × Name) → Type 0
-IsHistory before t None = Unit {0}
-IsHistory before t (Some names) =
+-- whether the name is that of a base relvar
+abbrev pub is_base : Option PlainRelvar → Bool
+is_base None = false
+is_base (Some (base value constraints)) = true
+is_base (Some (view t kind)) = false
+is_base (Some (log of side last value)) = false
+
+-- whether there is a base relvar of the name
+abbrev pub is_base_in : Entries → Name → Bool
+is_base_in entries name = is_base (relvar_named entries name)
+
+-- what a view of the kind keeps: that of a history is what its rule makes of its two relvars; one whose rows are stored is an operator over
+-- base relvars under USING, or PACK of one
+abbrev pub IsOfKind : Entries → Tree → PlainKind → Type 0
+IsOfKind before t derived = Unit {0}
+IsOfKind before t stored = IsTrue (is_stored_form t) × (names_any (λ name. not (is_base_in before name)) t ≡ false)
+IsOfKind before t (of_history names) =
     IsBase (relvar_named before names.0) × IsBase (relvar_named before names.1)
     × IsOfRule before names.0 names.1 t (rule_among (constraints_if (relvar_named before names.1)))
 
@@ -125,7 +140,7 @@ IsLogOf before of side heading =
 abbrev pub IsRelvar : List ℕ → Entries → Name → PlainRelvar → Type 0
 IsRelvar sizes before own (base value constraints) =
     IsTrue (is_declared sizes value.heading) × All (IsConstraint before own (base value constraints)) constraints
-IsRelvar sizes before own (view t history) = IsTypedTree sizes (headings_of before) t × IsHistory before t history
+IsRelvar sizes before own (view t kind) = IsTypedTree sizes (headings_of before) t × IsOfKind before t kind
 IsRelvar sizes before own (log of side last value) = IsTrue (is_declared sizes value.heading) × IsLogOf before of side value.heading
 
 abbrev pub AreRelvars : List ℕ → Entries → Entries → Type 0

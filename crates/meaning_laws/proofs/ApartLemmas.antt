@@ -37,7 +37,7 @@ none-test-named (is_not_empty place t) = none-named t
 
 none-view : (x : PlainRelvar) → view_names (λ name. false) x ≡ false
 none-view (base value constraints) = refl
-none-view (view t history) = none-named t
+none-view (view t kind) = none-named t
 none-view (log of side last value) = refl
 
 pub none-apart : (es : Entries) → IsApart (λ name. false) es
@@ -63,7 +63,7 @@ module _ (some more : Name → Bool) (fewer : (name : Name) → some name ≡ fa
 
   pub view-fewer : (x : PlainRelvar) → view_names some x ≡ false → view_names more x ≡ false
   view-fewer (base value constraints) none = refl
-  view-fewer (view t history) none = names-fewer t none
+  view-fewer (view t kind) none = names-fewer t none
   view-fewer (log of side last value) none = refl
 
 -- the entries before a relvar or view are among all

@@ -50,7 +50,7 @@ module _ (some more : Name → Bool) where
 
   pub view-or : (x : PlainRelvar) → view_names some x ≡ false → view_names more x ≡ false → view_names (λ name. some name || more name) x ≡ false
   view-or (base value constraints) p q = refl
-  view-or (view t history) p q = names-or t p q
+  view-or (view t kind) p q = names-or t p q
   view-or (log of side last value) p q = refl
 
 abbrev pub has_none : Entries → Name → Bool
@@ -72,7 +72,7 @@ module _ (es : Entries) (sizes : List ℕ) where
 
   pub relvar-has : (own : Name) (x : PlainRelvar) → IsRelvar sizes es own x → view_names (has_none es) x ≡ false
   relvar-has own (base value constraints) is = refl
-  relvar-has own (view t history) is = tree-has t is.0
+  relvar-has own (view t kind) is = tree-has t is.0
   relvar-has own (log of side last value) is = refl
 
 pub unknown-not : (some : Name → Bool) (es : Entries) (name : Name) → unknown some es name ≡ false → (some name ≡ false) × (has_entry es name ≡ true)

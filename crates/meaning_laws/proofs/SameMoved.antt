@@ -30,7 +30,7 @@ module _ (f : Place → Place) where
 
   pub relvar-heading-moved : (r : PlainRelvar) → relvar_heading (moved_relvar f r) ≡ relvar_heading r
   relvar-heading-moved (base value constraints) = refl
-  relvar-heading-moved (view t history) = heading-moved t
+  relvar-heading-moved (view t kind) = heading-moved t
   relvar-heading-moved (log of side last value) = refl
 
   module _ (some : Name → Bool) where
@@ -110,7 +110,7 @@ test-same (is_not_empty place t) = ap (is_not_empty place) (tree-same t)
 
 pub relvar-same : (r : PlainRelvar) → moved_relvar (λ p. p) r ≡ r
 relvar-same (base value constraints) = refl
-relvar-same (view t history) = ap (λ (u : Tree). view u history) (tree-same t)
+relvar-same (view t kind) = ap (λ (u : Tree). view u kind) (tree-same t)
 relvar-same (log of side last value) = refl
 
 pub entry-same : (e : Name × PlainRelvar) → moved_entry (λ p. p) e ≡ e
@@ -168,7 +168,7 @@ module _ (g f : Place → Place) where
 
   pub relvar-twice : (r : PlainRelvar) → moved_relvar g (moved_relvar f r) ≡ moved_relvar (λ p. g (f p)) r
   relvar-twice (base value constraints) = refl
-  relvar-twice (view t history) = ap (λ (u : Tree). view u history) (tree-twice t)
+  relvar-twice (view t kind) = ap (λ (u : Tree). view u kind) (tree-twice t)
   relvar-twice (log of side last value) = refl
 
   pub entry-twice : (e : Name × PlainRelvar) → moved_entry g (moved_entry f e) ≡ moved_entry (λ p. g (f p)) e

@@ -66,7 +66,7 @@ module _ (f : Place → Place) where
 
   abbrev pub moved_relvar : PlainRelvar → PlainRelvar
   moved_relvar (base value constraints) = base value constraints
-  moved_relvar (view t history) = view (moved_tree t) history
+  moved_relvar (view t kind) = view (moved_tree t) kind
   moved_relvar (log of side last value) = log of side last value
 
   abbrev pub moved_entry : Name × PlainRelvar → Name × PlainRelvar

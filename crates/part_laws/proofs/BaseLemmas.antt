@@ -51,8 +51,8 @@ pub bases-kept : (p : Name × PlainRelvar → Bool) (es : Entries) → ((name : 
 bases-kept p [] all = refl
 bases-kept p ((name, base v c) ∷ es) all =
     ap (λ b. bases (cond b ((name, base v c) ∷ filter p es) (filter p es))) (all name v c) ∙ ap (λ (bs : Entries). (name, base v c) ∷ bs) (bases-kept p es all)
-bases-kept p ((name, view t history) ∷ es) all =
-    elim (p (name, view t history)) as (λ b. bases (cond b ((name, view t history) ∷ filter p es) (filter p es)) ≡ bases es) [
+bases-kept p ((name, view t kind) ∷ es) all =
+    elim (p (name, view t kind)) as (λ b. bases (cond b ((name, view t kind) ∷ filter p es) (filter p es)) ≡ bases es) [
       | true ↦ bases-kept p es all
       | false ↦ bases-kept p es all
     ]
@@ -82,7 +82,7 @@ among-bases : (all other es : Entries) → HaveValues all other → first_among 
 among-bases all other [] same = refl
 among-bases all other ((name, base v cs) ∷ es) same =
     ap (λ (z : Option Refuse). or_later z (first_among all es)) (same-of all other name v.rows 1 cs same) ∙ ap (or_later (first_of other name v.rows 1 cs)) (among-bases all other es same)
-among-bases all other ((name, view t history) ∷ es) same = among-bases all other es same
+among-bases all other ((name, view t kind) ∷ es) same = among-bases all other es same
 among-bases all other ((name, log o k last w) ∷ es) same = among-bases all other es same
 
 broken-filtered : (es : Entries) → IsDistinct bytes_eq (names_in es) → first_broken es ≡ first_among (bases es) (bases es)
@@ -96,7 +96,7 @@ broken-bases es fs d d' e = broken-filtered es d ∙ (ap (λ (bs : Entries). fir
 rows-filtered : (es : Entries) → rows_of_all es ≡ rows_of_all (bases es)
 rows-filtered [] = refl
 rows-filtered ((name, base v cs) ∷ es) = let more = rows-filtered es in omega (arith, more)
-rows-filtered ((name, view t history) ∷ es) = let more = rows-filtered es in omega (arith, more)
+rows-filtered ((name, view t kind) ∷ es) = let more = rows-filtered es in omega (arith, more)
 rows-filtered ((name, log o k last w) ∷ es) = let more = rows-filtered es in omega (arith, more)
 
 pub rows-bases : (es fs : Entries) → filter is_base es ≡ filter is_base fs → rows_of_all es ≡ rows_of_all fs
@@ -107,13 +107,13 @@ rows-bases es fs e = rows-filtered es ∙ (ap rows_of_all e ∙ sym (rows-filter
 into-bases : (before es : Entries) → AreConstrained before es → AreConstrained before (bases es)
 into-bases before [] h = tt
 into-bases before ((name, base v cs) ∷ es) h = (h.0, into-bases (before ++ (name, base v cs) ∷ []) es h.1)
-into-bases before ((name, view t history) ∷ es) h = into-bases before es h
+into-bases before ((name, view t kind) ∷ es) h = into-bases before es h
 into-bases before ((name, log o k last w) ∷ es) h = into-bases before es h
 
 from-bases : (before es : Entries) → AreConstrained before (bases es) → AreConstrained before es
 from-bases before [] h = tt
 from-bases before ((name, base v cs) ∷ es) h = (h.0, from-bases (before ++ (name, base v cs) ∷ []) es h.1)
-from-bases before ((name, view t history) ∷ es) h = from-bases before es h
+from-bases before ((name, view t kind) ∷ es) h = from-bases before es h
 from-bases before ((name, log o k last w) ∷ es) h = from-bases before es h
 
 -- a base relvar is found with or without the views
@@ -151,8 +151,8 @@ constrained-after sizes front before ((name, base v cs) ∷ es) e h = (
   constrained-after sizes (front ++ (name, base v cs) ∷ []) (before ++ (name, base v cs) ∷ []) es
       (ap (λ (bs : Entries). bs ++ (name, base v cs) ∷ []) e ∙ sym (filter-append is_base front ((name, base v cs) ∷ []))) h.1,
 )
-constrained-after sizes front before ((name, view t history) ∷ es) e h =
-    constrained-after sizes (front ++ (name, view t history) ∷ []) before es (e ∙ sym (filter-append is_base front ((name, view t history) ∷ []) ∙ append-nil (bases front))) h.1
+constrained-after sizes front before ((name, view t kind) ∷ es) e h =
+    constrained-after sizes (front ++ (name, view t kind) ∷ []) before es (e ∙ sym (filter-append is_base front ((name, view t kind) ∷ []) ∙ append-nil (bases front))) h.1
 constrained-after sizes front before ((name, log o k last w) ∷ es) e h =
     constrained-after sizes (front ++ (name, log o k last w) ∷ []) before es (e ∙ sym (filter-append is_base front ((name, log o k last w) ∷ []) ∙ append-nil (bases front))) h.1
 
@@ -164,13 +164,13 @@ constrained-made sizes es h = constrained-after sizes [] [] es refl h
 into-relations : (es : Entries) → HaveRelations es → HaveRelations (bases es)
 into-relations [] h = tt
 into-relations ((name, base v cs) ∷ es) h = (h.0, into-relations es h.1)
-into-relations ((name, view t history) ∷ es) h = into-relations es h.1
+into-relations ((name, view t kind) ∷ es) h = into-relations es h.1
 into-relations ((name, log o k last w) ∷ es) h = into-relations es h.1
 
 from-relations : (es : Entries) → HaveRelations (bases es) → HaveRelations es
 from-relations [] h = tt
 from-relations ((name, base v cs) ∷ es) h = (h.0, from-relations es h.1)
-from-relations ((name, view t history) ∷ es) h = (tt, from-relations es h)
+from-relations ((name, view t kind) ∷ es) h = (tt, from-relations es h)
 from-relations ((name, log o k last w) ∷ es) h = (tt, from-relations es h)
 
 -- ---- databases

@@ -21,7 +21,7 @@ use Rattle.part_laws.specs.Parts.{is_base}
 pub base-of : (o : Option PlainRelvar) → IsBase o → (v : Relation) × (c : List Constraint) × (o ≡ Some (base v c))
 base-of None h = absurd h
 base-of (Some (base v c)) h = (v, c, refl)
-base-of (Some (view t history)) h = absurd h
+base-of (Some (view t kind)) h = absurd h
 base-of (Some (log o k last w)) h = absurd h
 
 -- ---- more entries

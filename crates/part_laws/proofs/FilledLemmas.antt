@@ -30,7 +30,7 @@ loadable-kept p es all is = loadable-bases es (filter p es) (sym (bases-kept p e
 
 emptied-view : (d : Name × PlainRelvar) → is_base d ≡ false → emptied d ≡ d
 emptied-view (name, base v c) e = absurd (true≢false e)
-emptied-view (name, view t history) e = refl
+emptied-view (name, view t kind) e = refl
 emptied-view (name, log o k last w) e = refl
 
 -- without rows it is as it was declared
@@ -39,21 +39,21 @@ filled-none [] [] h = refl
 filled-none [] (d ∷ ds) h = absurd h
 filled-none (e ∷ es) [] h = absurd h
 filled-none ((name, base v c) ∷ es) (d ∷ ds) h = λ t. sym h.0 t ∷ filled-none es ds h.1 t
-filled-none ((name, view t history) ∷ es) (d ∷ ds) h = λ i. emptied-view d h.0.1 i ∷ filled-none es ds h.1 i
+filled-none ((name, view t kind) ∷ es) (d ∷ ds) h = λ i. emptied-view d h.0.1 i ∷ filled-none es ds h.1 i
 filled-none ((name, log o k last w) ∷ es) (d ∷ ds) h = λ i. emptied-view d h.0.1 i ∷ filled-none es ds h.1 i
 
 pub filled-names : (es ds : Entries) → AreEmptied es ds → names_in (filled es ds) ≡ names_in es
 filled-names [] ds h = refl
 filled-names (e ∷ es) [] h = absurd h
 filled-names ((name, base v c) ∷ es) (d ∷ ds) h = ap (λ (l : List Name). name ∷ l) (filled-names es ds h.1)
-filled-names ((name, view t history) ∷ es) (d ∷ ds) h = λ i. h.0.0 i ∷ filled-names es ds h.1 i
+filled-names ((name, view t kind) ∷ es) (d ∷ ds) h = λ i. h.0.0 i ∷ filled-names es ds h.1 i
 filled-names ((name, log o k last w) ∷ es) (d ∷ ds) h = λ i. h.0.0 i ∷ filled-names es ds h.1 i
 
 pub filled-bases : (es ds : Entries) → AreEmptied es ds → filter is_base (filled es ds) ≡ filter is_base es
 filled-bases [] ds h = refl
 filled-bases (e ∷ es) [] h = absurd h
 filled-bases ((name, base v c) ∷ es) (d ∷ ds) h = ap (λ (l : Entries). (name, base v c) ∷ l) (filled-bases es ds h.1)
-filled-bases ((name, view t history) ∷ es) (d ∷ ds) h =
+filled-bases ((name, view t kind) ∷ es) (d ∷ ds) h =
     ap (λ (b : Bool). cond b (d ∷ filter is_base (filled es ds)) (filter is_base (filled es ds))) h.0.1 ∙ filled-bases es ds h.1
 filled-bases ((name, log o k last w) ∷ es) (d ∷ ds) h =
     ap (λ (b : Bool). cond b (d ∷ filter is_base (filled es ds)) (filter is_base (filled es ds))) h.0.1 ∙ filled-bases es ds h.1

@@ -26,7 +26,7 @@ use Rattle.part_laws.specs.Parts.{first_of_value, with_first, without_rows, empt
 
 first-none : (r : PlainRelvar) → with_first 0 r ≡ without_rows r
 first-none (base v c) = refl
-first-none (view t history) = refl
+first-none (view t kind) = refl
 first-none (log o k last w) = refl
 
 pub loaded-none : (es : Entries) → loaded 0 0 es ≡ map emptied es
@@ -127,7 +127,7 @@ loaded-next (e ∷ es) (suc i) n m name v c d at =
 
 first-fewer : (n : ℕ) (name : Name) (r : PlainRelvar) → count_of (name, with_first n r) ≤ count_of (name, r)
 first-fewer n name (base v c) = let long = length-take n v.rows in omega (arith, long)
-first-fewer n name (view t history) = omega arith
+first-fewer n name (view t kind) = omega arith
 first-fewer n name (log o k last w) = omega arith
 
 emptied-none : (es : Entries) → rows_of_all (map emptied es) ≡ 0
@@ -136,7 +136,7 @@ emptied-none (e ∷ es) = let here = no-rows e.0 e.1 in let more = emptied-none 
   where
     no-rows : (name : Name) (r : PlainRelvar) → count_of (name, without_rows r) ≡ 0
     no-rows name (base v c) = refl
-    no-rows name (view t history) = refl
+    no-rows name (view t kind) = refl
     no-rows name (log o k last w) = refl
 
 pub loaded-few : (i n : ℕ) (es : Entries) → rows_of_all (loaded i n es) ≤ rows_of_all es

@@ -73,11 +73,11 @@ module _ (types : List OrdinalNames) (es : Entries) (is : IsLoadable es) (Q : En
       relvar-through (length front) name v c (rows_of_entries types rest) stands
       (subst (λ k. Q (loaded k 0 es) (rows_of_entries types rest)) (length_more front (name, base v c))
       (from-front (front ++ (name, base v c) ∷ []) rest (e ∙ sym (in_turn front ((name, base v c) ∷ []) rest))))
-  from-front front ((name, view t history) ∷ rest) e =
-      let stands = subst (λ (l : Entries). IsAt l (length front) (name, view t history)) (sym e) (at-front front rest (name, view t history)) in
-      subst (λ (l : Entries). Q l (rows_of_entries types rest)) (sym (loaded-rowless es (length front) 0 name (view t history) refl stands))
-      (subst (λ k. Q (loaded k 0 es) (rows_of_entries types rest)) (length_more front (name, view t history))
-      (from-front (front ++ (name, view t history) ∷ []) rest (e ∙ sym (in_turn front ((name, view t history) ∷ []) rest))))
+  from-front front ((name, view t kind) ∷ rest) e =
+      let stands = subst (λ (l : Entries). IsAt l (length front) (name, view t kind)) (sym e) (at-front front rest (name, view t kind)) in
+      subst (λ (l : Entries). Q l (rows_of_entries types rest)) (sym (loaded-rowless es (length front) 0 name (view t kind) refl stands))
+      (subst (λ k. Q (loaded k 0 es) (rows_of_entries types rest)) (length_more front (name, view t kind))
+      (from-front (front ++ (name, view t kind) ∷ []) rest (e ∙ sym (in_turn front ((name, view t kind) ∷ []) rest))))
   from-front front ((name, log o k last w) ∷ rest) e =
       let stands = subst (λ (l : Entries). IsAt l (length front) (name, log o k last w)) (sym e) (at-front front rest (name, log o k last w)) in
       subst (λ (l : Entries). Q l (rows_of_entries types rest)) (sym (loaded-rowless es (length front) 0 name (log o k last w) refl stands))
@@ -92,7 +92,7 @@ module _ (types : List OrdinalNames) (es : Entries) (is : IsLoadable es) (Q : En
 inserts-filtered : (types : List OrdinalNames) (es : Entries) → rows_of_entries types es ≡ rows_of_entries types (filter is_base es)
 inserts-filtered types [] = refl
 inserts-filtered types ((name, base v c) ∷ es) = ap (λ (l : List (List ℕ)). inserts types name (base v c) ++ l) (inserts-filtered types es)
-inserts-filtered types ((name, view t history) ∷ es) = inserts-filtered types es
+inserts-filtered types ((name, view t kind) ∷ es) = inserts-filtered types es
 inserts-filtered types ((name, log o k last w) ∷ es) = inserts-filtered types es
 
 pub inserts-bases : (types : List OrdinalNames) (es fs : Entries) → filter is_base es ≡ filter is_base fs → rows_of_entries types es ≡ rows_of_entries types fs

@@ -161,7 +161,7 @@ front-more all whole front before later rest e is = record {
 emptied-unbroken : (all es : Entries) → first_among all (map emptied es) ≡ None
 emptied-unbroken all [] = refl
 emptied-unbroken all ((name, base v cs) ∷ es) = none_of_two (first_of all name [] 1 cs) (first_among all (map emptied es)) (none-holds all [] [] name 1 cs) (emptied-unbroken all es)
-emptied-unbroken all ((name, view t history) ∷ es) = emptied-unbroken all es
+emptied-unbroken all ((name, view t kind) ∷ es) = emptied-unbroken all es
 emptied-unbroken all ((name, log o k last w) ∷ es) = emptied-unbroken all es
 
 module _ (all whole : Entries) where
@@ -200,17 +200,17 @@ module _ (all whole : Entries) where
       let parts = neither (first_of whole name v.rows 1 cs) (first_among whole es) e in
       none_of_two (first_of all name (take n v.rows) 1 cs) (first_among all (map emptied es))
       (here-part n front before (map emptied es) es name v cs is h.0 relations.0 may parts.0) (emptied-unbroken all es)
-  among-loaded zero n front before ((name, view t history) ∷ es) is h relations may e = emptied-unbroken all es
+  among-loaded zero n front before ((name, view t kind) ∷ es) is h relations may e = emptied-unbroken all es
   among-loaded zero n front before ((name, log o k last w) ∷ es) is h relations may e = emptied-unbroken all es
   among-loaded (suc i) n front before ((name, base v cs) ∷ es) is h relations may e =
       let parts = neither (first_of whole name v.rows 1 cs) (first_among whole es) e in
       none_of_two (first_of all name v.rows 1 cs) (first_among all (loaded i n es)) (here-whole front before (loaded i n es) es name v cs is h.0 parts.0)
       (among-loaded i n (front ++ (name, base v cs) ∷ []) (before ++ (name, base v cs) ∷ []) es
       (front-more all whole front before (loaded i n es) es (name, base v cs) is) h.1 relations.1 may parts.1)
-  among-loaded (suc i) n front before ((name, view t history) ∷ es) is h relations may e =
-      let next = front-more all whole front before (loaded i n es) es (name, view t history) is in
-      let same = subst (λ (bs : Entries). IsFront all whole (front ++ (name, view t history) ∷ []) bs (loaded i n es) es) (append-nil before) next in
-      among-loaded i n (front ++ (name, view t history) ∷ []) before es same h relations.1 may e
+  among-loaded (suc i) n front before ((name, view t kind) ∷ es) is h relations may e =
+      let next = front-more all whole front before (loaded i n es) es (name, view t kind) is in
+      let same = subst (λ (bs : Entries). IsFront all whole (front ++ (name, view t kind) ∷ []) bs (loaded i n es) es) (append-nil before) next in
+      among-loaded i n (front ++ (name, view t kind) ∷ []) before es same h relations.1 may e
   among-loaded (suc i) n front before ((name, log o k last w) ∷ es) is h relations may e =
       let next = front-more all whole front before (loaded i n es) es (name, log o k last w) is in
       let same = subst (λ (bs : Entries). IsFront all whole (front ++ (name, log o k last w) ∷ []) bs (loaded i n es) es) (append-nil before) next in

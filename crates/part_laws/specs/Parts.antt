@@ -27,12 +27,12 @@ first_of_value n value = record { heading = value.heading; rows = take n value.r
 -- and so a relvar; a view or a log has no rows that come
 abbrev pub with_first : ℕ → PlainRelvar → PlainRelvar
 with_first n (base value constraints) = base (first_of_value n value) constraints
-with_first n (view t history) = view t history
+with_first n (view t kind) = view t kind
 with_first n (log o k last w) = log o k last w
 
 abbrev pub without_rows : PlainRelvar → PlainRelvar
 without_rows (base value constraints) = base (record { heading = value.heading; rows = [] }) constraints
-without_rows (view t history) = view t history
+without_rows (view t kind) = view t kind
 without_rows (log o k last w) = log o k last w
 
 abbrev pub emptied : Name × PlainRelvar → Name × PlainRelvar
@@ -48,7 +48,7 @@ loaded (suc i) n (e ∷ es) = e ∷ loaded i n es
 
 abbrev pub is_base : Name × PlainRelvar → Bool
 is_base (name, base value constraints) = true
-is_base (name, view t history) = false
+is_base (name, view t kind) = false
 is_base (name, log o k last w) = false
 
 -- the entry stands at the place
@@ -62,7 +62,7 @@ IsAt (d ∷ es) (suc i) e = IsAt es i e
 -- a relvar with a foreign key on itself has none of its rows or all
 abbrev pub MayHave : Name → ℕ → PlainRelvar → Type 0
 MayHave name n (base value constraints) = IsTrue (list_any (references name) constraints) → (n ≡ 0) ⊎ (length value.rows ≤ n)
-MayHave name n (view t history) = Unit {0}
+MayHave name n (view t kind) = Unit {0}
 MayHave name n (log o k last w) = Unit {0}
 
 -- the one at the place may have so many
@@ -78,7 +78,7 @@ abbrev pub AreConstrained : Entries → Entries → Type 0
 AreConstrained before [] = Unit {0}
 AreConstrained before ((name, base value constraints) ∷ es) =
     All (IsConstraint before name (base value constraints)) constraints × AreConstrained (before ++ (name, base value constraints) ∷ []) es
-AreConstrained before ((name, view t history) ∷ es) = AreConstrained before es
+AreConstrained before ((name, view t kind) ∷ es) = AreConstrained before es
 AreConstrained before ((name, log o k last w) ∷ es) = AreConstrained before es
 
 -- ---- databases
@@ -95,7 +95,7 @@ pub record IsLoadable (es : Entries) : Type 0 where
 -- the same base relvar without rows, or something else of the same name
 abbrev pub IsEmptied : Name × PlainRelvar → Name × PlainRelvar → Type 0
 IsEmptied (name, base value constraints) d = d ≡ (name, base (record { heading = value.heading; rows = [] }) constraints)
-IsEmptied (name, view t history) d = (d.0 ≡ name) × (is_base d ≡ false)
+IsEmptied (name, view t kind) d = (d.0 ≡ name) × (is_base d ≡ false)
 IsEmptied (name, log o k last w) d = (d.0 ≡ name) × (is_base d ≡ false)
 
 abbrev pub AreEmptied : Entries → Entries → Type 0
@@ -109,5 +109,5 @@ abbrev pub filled : Entries → Entries → Entries
 filled [] ds = []
 filled (e ∷ es) [] = []
 filled ((name, base value constraints) ∷ es) (d ∷ ds) = (name, base value constraints) ∷ filled es ds
-filled ((name, view t history) ∷ es) (d ∷ ds) = d ∷ filled es ds
+filled ((name, view t kind) ∷ es) (d ∷ ds) = d ∷ filled es ds
 filled ((name, log o k last w) ∷ es) (d ∷ ds) = d ∷ filled es ds

@@ -49,7 +49,7 @@ base_before before more name h = by (relvar_named before name) refl h
 
 of-base : (sizes : List ℕ) (before more : Entries) (own : Name) (r : PlainRelvar) → IsRelvar sizes before own r → IsOfBase (before ++ more) r
 of-base sizes before more own (base value constraints) is = tt
-of-base sizes before more own (view t history) is = tt
+of-base sizes before more own (view t kind) is = tt
 of-base sizes before more own (log of side last value) is =
     let same = base_before before more of is.1.0 in
     (subst IsBase (sym same) is.1.0, is.1.2 ∙ ap heading_if (sym same))
@@ -80,7 +80,7 @@ new-one None r value e h = absurd (cc)
 new-one (Some v) (base old constraints) value e h =
     let same : v ≡ value = cc in
     record { rows = ap (λ (z : Relation). z.rows) same; heading = sym (ap (λ (z : Relation). z.heading) same) ∙ h }
-new-one (Some v) (view t history) value e h = absurd h
+new-one (Some v) (view t kind) value e h = absurd h
 new-one (Some v) (log of side last w) value e h = absurd h
 
 pub change_found : (cs : Changes) (es : Entries) (name : Name) (value : Relation) → AreChanges cs es → change_named cs es name ≡ Some value → IsNew (relvar_named es name) (relvar_named (changed cs es) name) value

@@ -63,7 +63,7 @@ new_name s es n r made =
 
 stays-one : (n : ℤ) (es more : Entries) (r : PlainRelvar) → IsOfBase es r → IsInStep n es r → IsNext n (es ++ more) None r
 stays-one n es more (base value constraints) b h = tt
-stays-one n es more (view t history) b h = tt
+stays-one n es more (view t kind) b h = tt
 stays-one n es more (log of side last value) b h = (h.0, h.1 ∙ ap base_rows (sym (base_before es more of b.0)))
 
 both-there : (P Q R : PlainRelvar → Type 0) → ((r : PlainRelvar) → P r → Q r → R r) → (es : Entries) (i : ℕ) → IsSoAt i P es → IsSoAt i Q es → IsSoAt i R es
@@ -91,7 +91,7 @@ next-last n all (e ∷ es) (suc count) t y l are h = (are.0, next-last n all es 
 
 abbrev side-in : PlainRelvar → ℕ
 side-in (base value constraints) = 0
-side-in (view t history) = 0
+side-in (view t kind) = 0
 side-in (log of side last value) = side
 
 begun-as : (n : ℤ) (all : Entries) (from : Option PlainRelvar) (d : LogData) (t : PlainLog) → IsReadyLog n all (new_log (heading_if from) n d) (log d.of t.side t.last (log_relation t))

@@ -35,13 +35,13 @@ module _ (n : ℤ) (all : Entries) (name : Name) (come gone : Relation) where
   -- an entry that is no log of the name
   other_way : (r : PlainRelvar) → IsChangeOf (n -ℤ pos 1) all name come gone r → is_log_of name r ≡ false → IsOnTheWay n all r r
   other_way (base value constraints) is other = inl (refl, tt)
-  other_way (view t history) is other = inl (refl, tt)
+  other_way (view t kind) is other = inl (refl, tt)
   other_way (log of side last value) is other = inl (refl, is.1 other)
 
   -- the log of the name
   pub own_changing : (r : PlainRelvar) → IsChangeOf (n -ℤ pos 1) all name come gone r → is_log_of name r ≡ true → IsChangingLog (n -ℤ pos 1) all come gone r
   own_changing (base value constraints) is own = tt
-  own_changing (view t history) is own = tt
+  own_changing (view t kind) is own = tt
   own_changing (log of side last value) is own = is.0 own
 
   pub changing_there : (es : Entries) (i : ℕ) → AreChanging (n -ℤ pos 1) all name come gone es → IsSoAt i (λ r. is_log_of name r ≡ true) es → IsSoAt i (IsChangingLog (n -ℤ pos 1) all come gone) es

@@ -96,7 +96,7 @@ module _ (n : ℤ) (all : Entries) (name : Name) (come gone : Relation) where
   -- an entry that is no log of the name has no more rows
   stays_few : (r : PlainRelvar) → IsChangeOf n all name come gone r → HasEnded r → is_log_of name r ≡ false → log_count (turned_relvar all r) ≤ log_count r
   stays_few (base value constraints) is ended other = omega arith
-  stays_few (view t history) is ended other = omega arith
+  stays_few (view t kind) is ended other = omega arith
   stays_few (log of side last value) is ended other =
       let same : value_after side last value.rows ≡ base_rows (relvar_named all of) = (is.1 other).1 in
       let more = moved_few side last value.rows ended (base_rows (relvar_named all of)) []
@@ -107,7 +107,7 @@ module _ (n : ℤ) (all : Entries) (name : Name) (come gone : Relation) where
   -- the log of the name has at most those rows more that came, and no more than it may have
   changes_few : (r : PlainRelvar) → IsChangeOf n all name come gone r → HasEnded r → is_log_of name r ≡ true → (log_count (turned_relvar all r) ≤ log_count r + length come.rows) × (log_count (turned_relvar all r) ≤ most_rows)
   changes_few (base value constraints) is ended own = absurd (cc)
-  changes_few (view t history) is ended own = absurd (cc)
+  changes_few (view t kind) is ended own = absurd (cc)
   changes_few (log of side last value) is ended own =
       let change = is.0 own in
       let before : List Row = value_after side last value.rows in

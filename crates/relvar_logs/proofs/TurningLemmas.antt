@@ -131,7 +131,7 @@ module _ (all : Entries) (of : Name) (l : PlainLog) (n : ℤ) (is : IsLog l) (re
 base-same : (all : Entries) (o : Option PlainRelvar) → base_rows (option_map (turned_relvar all) o) ≡ base_rows o
 base-same all None = refl
 base-same all (Some (base value constraints)) = refl
-base-same all (Some (view t history)) = refl
+base-same all (Some (view t kind)) = refl
 base-same all (Some (log of side last value)) = refl
 
 named-turned : (all es : Entries) (name : Name) → relvar_named (map (λ r. (r.0, turned_relvar all r.1)) es) name ≡ option_map (turned_relvar all) (relvar_named es name)
@@ -149,7 +149,7 @@ rows-turned all name = ap base_rows (named-turned all all name) ∙ base-same al
 
 step-turned : (n : ℤ) (all : Entries) (r : PlainRelvar) → IsInStep n all r → IsInStep n (turned_logs all) r
 step-turned n all (base value constraints) h = tt
-step-turned n all (view t history) h = tt
+step-turned n all (view t kind) h = tt
 step-turned n all (log of side last value) h = (h.0, h.1 ∙ sym (rows-turned all of))
 
 pub all_there : (P : PlainRelvar → Type 0) (es : Entries) → ((i : ℕ) → i < length es → IsSoAt i P es) → All (λ r. P r.1) es

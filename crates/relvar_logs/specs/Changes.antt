@@ -21,7 +21,7 @@ newest (Some value) old = value
 abbrev pub IsChange : Option Relation → PlainRelvar → Type 0
 IsChange None r = Unit {0}
 IsChange (Some value) (base old constraints) = value.heading ≡ old.heading
-IsChange (Some value) (view t history) = ⊥
+IsChange (Some value) (view t kind) = ⊥
 IsChange (Some value) (log of side last w) = ⊥
 
 abbrev pub AreChanges : Changes → Entries → Type 0

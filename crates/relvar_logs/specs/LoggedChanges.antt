@@ -19,7 +19,7 @@ use Rattle.relvar_logs.specs.Room.{log_count, rows_of_logs, are_each_few}
 
 abbrev pub is_log_of : Name → PlainRelvar → Bool
 is_log_of name (base value constraints) = false
-is_log_of name (view t history) = false
+is_log_of name (view t kind) = false
 is_log_of name (log of side last value) = bytes_eq of name
 
 abbrev pub logs_of : Name → Entries → Entries
@@ -39,7 +39,7 @@ pub record IsChanging (n : ℤ) (all : Entries) (come gone : Relation) (of : Nam
 -- of a log of the relvar of this name that; of another one that it tells its relvar's rows
 abbrev pub IsChangeOf : ℤ → Entries → Name → Relation → Relation → PlainRelvar → Type 0
 IsChangeOf n all name come gone (base value constraints) = Unit {0}
-IsChangeOf n all name come gone (view t history) = Unit {0}
+IsChangeOf n all name come gone (view t kind) = Unit {0}
 IsChangeOf n all name come gone (log of side last value) =
     (bytes_eq of name ≡ true → IsChanging n all come gone of side last value) × (bytes_eq of name ≡ false → IsInStep n all (log of side last value))
 
@@ -51,7 +51,7 @@ AreChanging n all name come gone entries = All (λ r. IsChangeOf n all name come
 -- each row of a log ended by its last statement
 abbrev pub HasEnded : PlainRelvar → Type 0
 HasEnded (base value constraints) = Unit {0}
-HasEnded (view t history) = Unit {0}
+HasEnded (view t kind) = Unit {0}
 HasEnded (log of side last value) = All (λ (row : Row). (statements side row).1 ≤ℤ last) value.rows
 
 -- The relvar of the name has one log at most, which has room for so many rows more. With them the rows of all logs leave so many of the most.

@@ -16,7 +16,7 @@ use Rattle.relvar_logs.specs.LoggedChanges.{IsChanging}
 
 abbrev pub IsChangingLog : ℤ → Entries → Relation → Relation → PlainRelvar → Type 0
 IsChangingLog n all come gone (base value constraints) = Unit {0}
-IsChangingLog n all come gone (view t history) = Unit {0}
+IsChangingLog n all come gone (view t kind) = Unit {0}
 IsChangingLog n all come gone (log of side last value) = IsChanging n all come gone of side last value
 
 -- the log t after the statement n, where it was l before and its relvar gained and lost these rows

@@ -12,7 +12,7 @@ use Rattle.meaning_core.specs.Logs.{turned_relvar}
 -- the rows of a log
 abbrev pub log_count : PlainRelvar → ℕ
 log_count (base value constraints) = 0
-log_count (view t history) = 0
+log_count (view t kind) = 0
 log_count (log of side last value) = length value.rows
 
 abbrev pub rows_of_logs : Entries → ℕ

@@ -25,7 +25,7 @@ pub record IsReadyLog (n : ℤ) (all : Entries) (before after : PlainRelvar) : T
 -- those that the log tells of the n-th. Of other entries nothing is asked.
 abbrev pub IsNext : ℤ → Entries → Option PlainLog → PlainRelvar → Type 0
 IsNext n all next (base value constraints) = Unit {0}
-IsNext n all next (view t history) = Unit {0}
+IsNext n all next (view t kind) = Unit {0}
 IsNext n all None (log of side last value) = IsInStep n all (log of side last value)
 IsNext n all (Some t) (log of side last value) = IsReadyLog n all (log of side last value) (log of t.side t.last (log_relation t))
 
@@ -47,7 +47,7 @@ turned_first all (suc i) (r ∷ rest) = (r.0, turned_relvar all r.1) ∷ turned_
 -- a log is that of a base relvar, whose heading it has beside its own attribute
 abbrev pub IsOfBase : Entries → PlainRelvar → Type 0
 IsOfBase entries (base value constraints) = Unit {0}
-IsOfBase entries (view t history) = Unit {0}
+IsOfBase entries (view t kind) = Unit {0}
 IsOfBase entries (log of side last value) = IsBase (relvar_named entries of) × (without side value.heading ≡ heading_if (relvar_named entries of))
 
 -- the log would have too many rows after the next statement, behind which these are the relvars; or memory is wanting

@@ -32,10 +32,7 @@ fn is_log(relvar: &Relvar) -> bool
             value: _,
             constraints: _,
         } => false,
-        Relvar::View {
-            tree: _,
-            history: _,
-        } => false,
+        Relvar::View { tree: _, kind: _ } => false,
     }
 }
 
@@ -94,9 +91,6 @@ fn rows_of(relvar: &Relvar, next: &Option<Log>) -> usize
             value: _,
             constraints: _,
         } => 0,
-        Relvar::View {
-            tree: _,
-            history: _,
-        } => 0,
+        Relvar::View { tree: _, kind: _ } => 0,
     }
 }

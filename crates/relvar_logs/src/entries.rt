@@ -28,10 +28,7 @@ pub(crate) fn is_log_of(relvar: &Relvar, name: &Name) -> bool
             value: _,
             constraints: _,
         } => false,
-        Relvar::View {
-            tree: _,
-            history: _,
-        } => false,
+        Relvar::View { tree: _, kind: _ } => false,
     }
 }
 
@@ -58,10 +55,7 @@ fn rows_of(relvar: &Relvar) -> usize
             value: _,
             constraints: _,
         } => 0,
-        Relvar::View {
-            tree: _,
-            history: _,
-        } => 0,
+        Relvar::View { tree: _, kind: _ } => 0,
     }
 }
 
@@ -87,10 +81,7 @@ pub(crate) fn change_relvar(
             value: _,
             constraints: _,
         } => Ok(()),
-        Relvar::View {
-            tree: _,
-            history: _,
-        } => Ok(()),
+        Relvar::View { tree: _, kind: _ } => Ok(()),
     }
 }
 
@@ -129,10 +120,7 @@ pub(crate) fn bring_log(relvar: &mut Relvar, number: i64)
             value: _,
             constraints: _,
         } => (),
-        Relvar::View {
-            tree: _,
-            history: _,
-        } => (),
+        Relvar::View { tree: _, kind: _ } => (),
     }
 }
 

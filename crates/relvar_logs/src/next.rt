@@ -81,10 +81,7 @@ fn next_of(
             value: _,
             constraints: _,
         } => Ok(None),
-        Relvar::View {
-            tree: _,
-            history: _,
-        } => Ok(None),
+        Relvar::View { tree: _, kind: _ } => Ok(None),
     }
 }
 

@@ -88,9 +88,6 @@ fn turn(relvar: &mut Relvar, next: Option<Log>, number: i64)
             value: _,
             constraints: _,
         } => drop(next),
-        Relvar::View {
-            tree: _,
-            history: _,
-        } => drop(next),
+        Relvar::View { tree: _, kind: _ } => drop(next),
     }
 }

@@ -18,7 +18,7 @@ use Rattle.relation_core.specs.Agreement.{position_of}
 use Rattle.relation_core.specs.Parts.{no_attribute, kind_at}
 use Rattle.relation_core.proofs.HeadingLemmas.{heading_ascends}
 use Rattle.tree_core.specs.Items.{PlainItemForm, set_to, insert, delete, delete_rows, update, terminate, PlainItem, PlainAssignment}
-use Rattle.tree_core.specs.Relvars.{PlainRelvar, base, view, State, relvar_named, heading_if, constraints_if, rule_among, history_if, log}
+use Rattle.tree_core.specs.Relvars.{derived, of_history, stored, PlainRelvar, base, view, State, relvar_named, heading_if, constraints_if, rule_among, history_if, log}
 use Rattle.tree_core.specs.Trees.{Tree, named, restrict}
 use Rattle.meaning_core.specs.Endings.{rule_if}
 use Rattle.meaning_core.specs.Histories.{joined_history, last_point, type_at, name_at}
@@ -107,7 +107,7 @@ module _ (s : State) (made : IsWellMade s) where
 
   -- ---- the view of a history
 
-  module _ (names : Name × Name) (t : Tree) (m : IsMadeIn sizes s.relvars (view t (Some names))) where
+  module _ (names : Name × Name) (t : Tree) (m : IsMadeIn sizes s.relvars (view t (of_history names))) where
     by-rule : (q : Option HistoryRule) → IsOfRule m.prefix names.0 names.1 t q → JoinsBy (relvar_named m.prefix names.0) (relvar_named m.prefix names.1) q
     by-rule None of = absurd of
     by-rule (Some rule) of =
@@ -129,9 +129,10 @@ module _ (s : State) (made : IsWellMade s) where
   of-target place at e c name None f is = absurd is
   of-target place at e c name (Some (base value list)) f is = absurd is
   of-target place at e c name (Some (log of side last value)) f is = absurd is
-  of-target place at e c name (Some (view t None)) f is = absurd is
-  of-target place at e c name (Some (view t (Some names))) f is =
-      let m = made-in sizes [] s.relvars name (view t (Some names)) made.relvars f in
+  of-target place at e c name (Some (view t derived)) f is = absurd is
+  of-target place at e c name (Some (view t stored)) f is = absurd is
+  of-target place at e c name (Some (view t (of_history names))) f is =
+      let m = made-in sizes [] s.relvars name (view t (of_history names)) made.relvars f in
       ended-by place at e c names (rule_if s.relvars (Some names)) (of-view s made names t m) (of-history names t m) is
 
   of-form : (item : PlainItem) (form : PlainItemForm) → IsEndingForm form → IsTypedForm s item.target item.heading form → All (IsTypedAssignment s) (meant_by_form s.relvars item form)

@@ -17,10 +17,10 @@ use Rattle.value_core.specs.Values.{Name, Heading, Relation, attribute_cmp, is_h
 use Rattle.relation_core.specs.Agreement.{position_of}
 use Rattle.relation_core.specs.Parts.{no_attribute}
 use Rattle.tree_core.specs.declared.declaration.HistoryData.{HistoryData}
-use Rattle.tree_core.specs.Relvars.{PlainRelvar, base, Entries, relvar_named, heading_if, constraints_if, rule_among}
+use Rattle.tree_core.specs.Relvars.{of_history, PlainRelvar, base, Entries, relvar_named, heading_if, constraints_if, rule_among}
 use Rattle.tree_core.specs.Trees.{Tree, named}
 use Rattle.meaning_core.specs.Histories.{joined_history, last_point, with_attribute, type_of_kind, type_at, name_at}
-use Rattle.meaning_core.specs.WellMade.{IsBase, IsOfRule, IsHistory}
+use Rattle.meaning_core.specs.WellMade.{IsBase, IsOfRule, IsOfKind}
 use Rattle.since_during.specs.Histories.{IsHistoryData, since_heading, during_heading, during_constraints, span_of, rule_between, view_of}
 use Rattle.since_during.proofs.HeadingLemmas.{put-in-order}
 
@@ -79,7 +79,7 @@ module _ (h : HistoryData) (headed : IsTrue (is_heading h.heading)) (given : IsH
 
   -- where the two relvars stand before it, whatever rows they have
   pub view-fits : (before : Entries) (now past : Relation) (list : List Constraint) → relvar_named before h.since ≡ Some (base now list) → now.heading ≡ since_heading h
-      → relvar_named before h.during ≡ Some (base past (during_constraints h)) → past.heading ≡ during_heading h → IsHistory before (view_of h) (Some (h.since, h.during))
+      → relvar_named before h.during ≡ Some (base past (during_constraints h)) → past.heading ≡ during_heading h → IsOfKind before (view_of h) (of_history (h.since, h.during))
   view-fits before now past list since at during there =
       let here : heading_if (relvar_named before h.since) ≡ since_heading h = ap heading_if since ∙ at in
       let ended : heading_if (relvar_named before h.during) ≡ during_heading h = ap heading_if during ∙ there in

@@ -11,7 +11,7 @@ use Rattle.value_core.specs.declared.kind.Kind.TheVariants.{Point}
 use Rattle.value_core.specs.Values.{Heading, Relation, is_heading, same_line}
 use Rattle.scalar_core.proofs.PointLemmas.{same_line-self, number-is_number, last-number}
 use Rattle.tree_core.specs.declared.declaration.HistoryData.{HistoryData}
-use Rattle.tree_core.specs.Relvars.{State, PlainRelvar, base, view, relvar_named, heading_if}
+use Rattle.tree_core.specs.Relvars.{State, of_history, PlainRelvar, base, view, relvar_named, heading_if}
 use Rattle.tree_core.specs.Trees.{named}
 use Rattle.meaning_core.specs.Declarations.{with_relvar}
 use Rattle.meaning_core.specs.Histories.{last_point}
@@ -109,7 +109,7 @@ module _ (s : State) (h : HistoryData) (made : IsWellMade s) (is : IsTypedHistor
 
 pub history-made : (s : State) (h : HistoryData) → IsWellMade s → IsTypedHistory s h → IsWellMade (declared_in s (declared_history h))
 history-made s h made is =
-    with-relvar (second s h made is) h.view (view (view_of h) (Some (h.since, h.during))) (second-made s h made is) (view-free s h made is) (
+    with-relvar (second s h made is) h.view (view (view_of h) (of_history (h.since, h.during))) (second-made s h made is) (view-free s h made is) (
       view-typed s h made is,
       view-fits h (headed s h made is) is.given (second s h made is).relvars (empty (since_heading h)) (empty (during_heading h)) (since_constraints h) (since-second s h made is) refl (during-second s h made is) refl,
     )

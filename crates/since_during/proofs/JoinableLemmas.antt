@@ -11,7 +11,7 @@ use Rattle.value_core.specs.declared.kind.Kind.TheVariants.{Span}
 use Rattle.value_core.specs.Limits.{most_attributes}
 use Rattle.value_core.specs.Values.{Name}
 use Rattle.relation_core.proofs.HeadingLemmas.{few_attributes}
-use Rattle.tree_core.specs.Relvars.{PlainRelvar, base, view, Entries, State, relvar_named, heading_if, constraints_if, rule_among, history_if, log}
+use Rattle.tree_core.specs.Relvars.{derived, of_history, stored, PlainRelvar, base, view, Entries, State, relvar_named, heading_if, constraints_if, rule_among, history_if, log}
 use Rattle.tree_core.specs.Trees.{Tree}
 use Rattle.meaning_core.specs.Endings.{history_of, rule_if}
 use Rattle.meaning_core.specs.Histories.{with_attribute, type_at, name_at}
@@ -88,7 +88,7 @@ module _ (s : State) (made : IsWellMade s) where
   points : (name : Name) (rule : HistoryRule) (o : Option PlainRelvar) → relvar_named s.relvars name ≡ o → IsBase o → rule_among (constraints_if o) ≡ Some rule
       → Points (relvar_named s.relvars rule.since) o rule
   points name rule None e is r = absurd is
-  points name rule (Some (view t history)) e is r = absurd is
+  points name rule (Some (view t kind)) e is r = absurd is
   points name rule (Some (log of side last value)) e is r = absurd is
   points name rule (Some (base value list)) e is r =
       let m = made-in (sizes_of s.ordinals) [] s.relvars name (base value list) made.relvars e in
@@ -96,12 +96,12 @@ module _ (s : State) (made : IsWellMade s) where
       let whole = named-whole s.relvars m.prefix m.own (base value list) m.back m.split rule.since fits.0 in
       (fits.1.6, subst (λ (o : Option PlainRelvar). rule.point_there < length (heading_if o)) (sym whole) fits.1.7)
 
-  module _ (names : Name × Name) (t : Tree) (m : IsMadeIn (sizes_of s.ordinals) s.relvars (view t (Some names))) where
+  module _ (names : Name × Name) (t : Tree) (m : IsMadeIn (sizes_of s.ordinals) s.relvars (view t (of_history names))) where
     pub whole-since : relvar_named s.relvars names.0 ≡ relvar_named m.prefix names.0
-    whole-since = named-whole s.relvars m.prefix m.own (view t (Some names)) m.back m.split names.0 m.made.1.0
+    whole-since = named-whole s.relvars m.prefix m.own (view t (of_history names)) m.back m.split names.0 m.made.1.0
 
     pub whole-during : relvar_named s.relvars names.1 ≡ relvar_named m.prefix names.1
-    whole-during = named-whole s.relvars m.prefix m.own (view t (Some names)) m.back m.split names.1 m.made.1.1
+    whole-during = named-whole s.relvars m.prefix m.own (view t (of_history names)) m.back m.split names.1 m.made.1.1
 
     by-rule : (q : Option HistoryRule) → rule_among (constraints_if (relvar_named m.prefix names.1)) ≡ q → IsOfRule m.prefix names.0 names.1 t q
         → Joins (relvar_named m.prefix names.0) (relvar_named m.prefix names.1) q
@@ -124,9 +124,10 @@ module _ (s : State) (made : IsWellMade s) where
   of-relvar : (name : Name) (o : Option PlainRelvar) → relvar_named s.relvars name ≡ o → AreJoinable s.relvars (history_if o)
   of-relvar name None e = tt
   of-relvar name (Some (base value list)) e = tt
-  of-relvar name (Some (view t None)) e = tt
+  of-relvar name (Some (view t derived)) e = tt
+  of-relvar name (Some (view t stored)) e = tt
   of-relvar name (Some (log of side last value)) e = tt
-  of-relvar name (Some (view t (Some names))) e = of-view names t (made-in (sizes_of s.ordinals) [] s.relvars name (view t (Some names)) made.relvars e)
+  of-relvar name (Some (view t (of_history names))) e = of-view names t (made-in (sizes_of s.ordinals) [] s.relvars name (view t (of_history names)) made.relvars e)
 
   pub joinable : (name : Name) → AreJoinable s.relvars (history_of s.relvars name)
   joinable name = of-relvar name (relvar_named s.relvars name) refl

@@ -14,7 +14,7 @@ use Rattle.value_core.specs.Headings.{has_name}
 use Rattle.value_core.specs.Values.{Name, Heading}
 use Rattle.relation_core.specs.Agreement.{names_of, position_of}
 use Rattle.tree_core.specs.declared.declaration.HistoryData.{HistoryData}
-use Rattle.tree_core.specs.Relvars.{State}
+use Rattle.tree_core.specs.Relvars.{State, of_history}
 use Rattle.tree_core.specs.Trees.{Tree, named}
 use Rattle.meaning_core.specs.Declarations.{PlainDeclaration, base_relvar, view_relvar, with_declaration}
 use Rattle.meaning_core.specs.Histories.{joined_history, last_point, with_attribute}
@@ -87,7 +87,7 @@ abbrev pub declared_history : HistoryData → List PlainDeclaration
 declared_history h =
     base_relvar h.since (since_heading h) (since_constraints h)
     ∷ base_relvar h.during (during_heading h) (during_constraints h)
-    ∷ view_relvar h.view (view_of h) (Some (h.since, h.during))
+    ∷ view_relvar h.view (view_of h) (of_history (h.since, h.during))
     ∷ []
 
 -- ---- in a state

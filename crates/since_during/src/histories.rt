@@ -1,8 +1,9 @@
 // What HISTORY declares.
-ghost use Rattle.std.specs.Prelude.{◌≡◌, [], ◌∷◌, ◌++◌, IfOk, Some, map};
+ghost use Rattle.std.specs.Prelude.{◌≡◌, [], ◌∷◌, ◌++◌, IfOk, map};
 ghost use Rattle.value_core.specs.declared.constraint.Constraint.TheVariants as constraints;
 ghost use Rattle.scalar_core.specs.Expressions.{read};
 ghost use Rattle.relation_core.specs.Agreement.{names_of, position_of};
+ghost use Rattle.tree_core.specs.Relvars.{of_history};
 ghost use Rattle.tree_core.specs.Trees.{read_tree};
 ghost use Rattle.meaning_core.specs.Declarations.{base_relvar, read_declaration, view_relvar};
 ghost use Rattle.meaning_core.specs.Histories.{last_point};
@@ -246,7 +247,7 @@ fn view_tree(alloc: Global, h: &HistoryData) -> Result<RelTree, Memory>
 /// The view.
 fn history_view(alloc: Global, h: &HistoryData) -> Result<Declaration, Memory>
     requires { IsHistoryData h.now }
-    ensures { IfOk result (λ d. read_declaration d ≡ view_relvar h.now.view (view_of h.now) (Some (h.now.since, h.now.during))) }
+    ensures { IfOk result (λ d. read_declaration d ≡ view_relvar h.now.view (view_of h.now) (of_history (h.now.since, h.now.during))) }
 {
     let view = h.view.copy(alloc)?;
     let since = h.since.copy(alloc)?;

@@ -47,5 +47,5 @@ module _ (some : Name → Bool) where
   -- whether a relvar's constraint or a view's expression does, or a log is such a relvar's
   abbrev pub relvar_names_any : PlainRelvar → Bool
   relvar_names_any (base value constraints) = list_any references_any constraints
-  relvar_names_any (view t history) = names_any t
+  relvar_names_any (view t kind) = names_any t
   relvar_names_any (log of side last value) = some of

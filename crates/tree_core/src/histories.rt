@@ -1,8 +1,8 @@
 // The relvars of a history, and the rule that ties them.
 ghost use Rattle.std.specs.Prelude.{◌≡◌, option_map};
-ghost use Rattle.tree_core.specs.Relvars.{constraints_if, history_if, read_relvar, rule_among};
+ghost use Rattle.tree_core.specs.Relvars.{constraints_if, history_if, history_in, read_kind, read_relvar, rule_among};
 
-use crate::relvar::Relvar;
+use crate::relvar::{Relvar, ViewKind};
 use value_core::{Constraint, HistoryRule, Name};
 
 // The first history rule among the constraints.
@@ -28,14 +28,20 @@ pub fn rule_if<'a>(relvar: Option<&'a Relvar>) -> Option<&'a HistoryRule>
                 constraints,
             },
         ) => rule_among(constraints.list.as_slice()),
-        Some(
-            Relvar::View {
-                tree: _,
-                history: _,
-            },
-        ) => None,
+        Some(Relvar::View { tree: _, kind: _ }) => None,
         Some(Relvar::Log { of: _, log: _ }) => None,
         None => None,
+    }
+}
+
+// The names that a view of this kind has of a history.
+fn history_in<'a>(kind: &'a ViewKind) -> Option<&'a (Name, Name)>
+    ensures { option_map (λ n. n.now) result ≡ history_in (read_kind kind.now) }
+{
+    match kind {
+        ViewKind::OfHistory(names) => Some(names),
+        ViewKind::Derived => None,
+        ViewKind::Stored(_) => None,
     }
 }
 
@@ -44,7 +50,7 @@ pub fn history_if<'a>(relvar: Option<&'a Relvar>) -> Option<&'a (Name, Name)>
     ensures { option_map (λ n. n.now) result ≡ history_if (option_map (λ r. read_relvar r.now) relvar.entry) }
 {
     match relvar {
-        Some(Relvar::View { tree: _, history }) => history.as_ref(),
+        Some(Relvar::View { tree: _, kind }) => history_in(kind),
         Some(
             Relvar::Base {
                 value: _,

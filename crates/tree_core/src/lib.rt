@@ -17,7 +17,7 @@ pub use copy::{copy_aggregates, copy_sets};
 pub use declaration::{Assignment, Declaration, HistoryData, LogData};
 pub use histories::{history_if, rule_if};
 pub use item::{Change, Item, ItemForm, Items, Portion};
-pub use relvar::{Relvar, Relvars};
+pub use relvar::{Relvar, Relvars, ViewKind};
 pub use scalars::{
     always, attribute, closed_interval, conjunction, intervals_compared, negation, parts,
 };

@@ -8,8 +8,18 @@ use indexmap::IndexMap;
 use log_times::Log;
 use value_core::{Constraints, Heading, Name, OrdinalTypes, Relation};
 
-/// A base relvar with its value and its constraints, a view with its expression, or the log of a base relvar. The view of a history has
-/// the names of its since relvar and its during relvar.
+/// Where the rows of a view come from.
+#[derive(Drop)]
+pub enum ViewKind {
+    /// From its expression, whenever they are asked for.
+    Derived,
+    /// The same; it is the view of a history, with the names of its since relvar and its during relvar.
+    OfHistory((Name, Name)),
+    /// They are stored beside its expression.
+    Stored(Relation),
+}
+
+/// A base relvar with its value and its constraints, a view with its expression, or the log of a base relvar.
 #[derive(Drop)]
 pub enum Relvar {
     Base {
@@ -18,7 +28,7 @@ pub enum Relvar {
     },
     View {
         tree: RelTree,
-        history: Option<(Name, Name)>,
+        kind: ViewKind,
     },
     Log {
         of: Name,
@@ -36,7 +46,7 @@ impl Relvar {
                 value,
                 constraints: _,
             } => value.heading(),
-            Relvar::View { tree, history: _ } => &tree.heading,
+            Relvar::View { tree, kind: _ } => &tree.heading,
             Relvar::Log { of: _, log } => log.heading(),
         }
     }

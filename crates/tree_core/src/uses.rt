@@ -84,7 +84,7 @@ pub fn relvar_names_any(relvar: &Relvar, names: &[&Name]) -> bool
             value: _,
             constraints,
         } => any_references(constraints.list.as_slice(), names),
-        Relvar::View { tree, history: _ } => names_any(tree, names),
+        Relvar::View { tree, kind: _ } => names_any(tree, names),
         Relvar::Log { of, log: _ } => is_one_of(of, names),
     }
 }

@@ -75,7 +75,7 @@ names-fine heading (syntax.Names at words) = positions-fine heading [] words
 base-heading-fine : (at : Place) (o : Option PlainRelvar) → IsNotE06 (base_heading at o)
 base-heading-fine at None = λ e. cc
 base-heading-fine at (Some (base value constraints)) = tt
-base-heading-fine at (Some (view t history)) = λ e. cc
+base-heading-fine at (Some (view t kind)) = λ e. cc
 base-heading-fine at (Some (log o k last w)) = λ e. cc
 
 heading-there-fine : (s : State) (own : Name) (heading : Heading) (at : Place) (name : Name) → IsNotE06 (heading_there s own heading at name)

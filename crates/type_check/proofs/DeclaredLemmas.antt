@@ -148,7 +148,7 @@ module _ (sizes : List ℕ) where
   relvar-declared : (before : Entries) (own : Name) (r : PlainRelvar) → IsTrue (list_all (λ k. is_declared sizes k.1) (headings_of before)) → IsRelvar sizes before own r
       → IsTrue (is_declared sizes (relvar_heading r))
   relvar-declared before own (base value constraints) all h = h.0
-  relvar-declared before own (view t history) all h = tree-declared (headings_of before) t all h.0
+  relvar-declared before own (view t kind) all h = tree-declared (headings_of before) t all h.0
   relvar-declared before own (log of side last value) all h = h.0
 
   pub all-append : (p : Name × Heading → Bool) (xs ys : Headings) → IsTrue (list_all p xs) → IsTrue (list_all p ys) → IsTrue (list_all p (xs ++ ys))

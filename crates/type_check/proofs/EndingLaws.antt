@@ -8,7 +8,7 @@ use Rattle.value_core.specs.declared.constraint.HistoryRule.{HistoryRule}
 use Rattle.value_core.specs.Values.{Name}
 use Rattle.relation_core.specs.Parts.{kind_at}
 use Rattle.scalar_typing.specs.Typings.{◌>>=◌, value_or}
-use Rattle.tree_core.specs.Relvars.{PlainRelvar, view, Entries, State, relvar_named, relvar_heading, constraints_if, rule_among}
+use Rattle.tree_core.specs.Relvars.{of_history, PlainRelvar, view, Entries, State, relvar_named, relvar_heading, constraints_if, rule_among}
 use Rattle.tree_core.specs.Trees.{Tree}
 use Rattle.meaning_core.specs.Endings.{rule_if}
 use Rattle.meaning_core.specs.WellMade.{sizes_of, IsBase, IsOfRule, IsRelvar, AreRelvars, IsWellMade}
@@ -58,12 +58,12 @@ told place None p rule since = absurd rule
 told place (Some rule) None h since = absurd since
 told place (Some rule) (Some since) h is = tt
 
-pub facts-told : (s : State) (place : Place) (name : Name) (t : Tree) (names : Name × Name) → IsWellMade s → relvar_named s.relvars name ≡ Some (view t (Some names))
-    → IfErr (facts_of s place (view t (Some names))) (λ _. ⊥)
+pub facts-told : (s : State) (place : Place) (name : Name) (t : Tree) (names : Name × Name) → IsWellMade s → relvar_named s.relvars name ≡ Some (view t (of_history names))
+    → IfErr (facts_of s place (view t (of_history names))) (λ _. ⊥)
 facts-told s place name t names made e =
-    let m = made-in (sizes_of s.ordinals) [] s.relvars name (view t (Some names)) made.relvars e in
-    let since = named-whole (sizes_of s.ordinals) s.relvars (view t (Some names)) m names.0 m.made.1.0 in
-    let during = named-whole (sizes_of s.ordinals) s.relvars (view t (Some names)) m names.1 m.made.1.1 in
+    let m = made-in (sizes_of s.ordinals) [] s.relvars name (view t (of_history names)) made.relvars e in
+    let since = named-whole (sizes_of s.ordinals) s.relvars (view t (of_history names)) m names.0 m.made.1.0 in
+    let during = named-whole (sizes_of s.ordinals) s.relvars (view t (of_history names)) m names.1 m.made.1.1 in
     let rule = rule-there m.prefix names.0 names.1 t (rule_among (constraints_if (relvar_named m.prefix names.1))) m.made.1.2 in
     told place (rule_if s.relvars (Some names)) (relvar_named s.relvars names.0) (subst (λ (o : Option PlainRelvar). IsThere (rule_among (constraints_if o))) (sym during) rule)
     (subst IsBase (sym since) m.made.1.0)

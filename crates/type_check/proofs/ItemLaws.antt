@@ -45,7 +45,7 @@ use Rattle.type_check.proofs.TreeLaws.{tree-fine}
 
 base-heading-fine : (place : Place) (r : PlainRelvar) → IsNotE06 (base_heading place r)
 base-heading-fine place (base value constraints) = tt
-base-heading-fine place (view t history) = λ e. cc
+base-heading-fine place (view t kind) = λ e. cc
 base-heading-fine place (log of side last value) = λ e. cc
 
 target-fine : (state : State) (w : Word) → NameIn has_no_value w → IsNotE06 (target_typed state w)

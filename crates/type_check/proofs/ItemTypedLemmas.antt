@@ -109,7 +109,7 @@ module _ (state : State) (made : IsWellMade state) where
           → IfOk (value_or w.place E10 o >>= (λ found. base_heading w.place found >>= (λ heading. Ok (name, heading)))) (IsTarget state)
       by-name name None e = tt
       by-name name (Some (base value constraints)) e = (subst IsBase (sym e) tt, sym (ap heading_if e))
-      by-name name (Some (view t history)) e = tt
+      by-name name (Some (view t kind)) e = tt
       by-name name (Some (log o k last w)) e = tt
 
   -- its heading is one

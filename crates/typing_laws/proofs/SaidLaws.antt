@@ -8,7 +8,7 @@ use Rattle.point_core.specs.declared.fault.Place.{Place}
 use Rattle.value_core.specs.declared.constraint.Constraint.{Constraint}
 use Rattle.value_core.specs.Values.{Name, Heading}
 use Rattle.tree_core.specs.declared.declaration.HistoryData.{HistoryData}
-use Rattle.tree_core.specs.Relvars.{State, PlainRelvar, base, view, Entries}
+use Rattle.tree_core.specs.Relvars.{State, derived, of_history, PlainRelvar, base, view, Entries}
 use Rattle.tree_core.specs.Trees.{Tree, Test}
 use Rattle.meaning_core.specs.Declarations.{ordinal_type, base_relvar, view_relvar, with_declaration, with_rule}
 use Rattle.meaning_laws.specs.Moved.{moved_entry, moved_rule}
@@ -72,7 +72,7 @@ module _ (s : State) where
   pub with-base : (name : Name) (heading : Heading) (typed : List Constraint) → with_declaration s (base_relvar name heading typed) ≡ with_said s (said_base name heading typed)
   with-base name heading typed = λ i. record { ordinals = no-ordinals i; relvars = s.relvars ++ entries_said (said_base name heading typed); rules = no-rules i; accepted = s.accepted }
 
-  pub with-view : (name : Name) (t : Tree) → with_declaration s (view_relvar name t None) ≡ with_said s (said_view name t)
+  pub with-view : (name : Name) (t : Tree) → with_declaration s (view_relvar name t derived) ≡ with_said s (said_view name t)
   with-view name t = λ i. record { ordinals = no-ordinals i; relvars = s.relvars ++ entries_said (said_view name t); rules = no-rules i; accepted = s.accepted }
 
   pub with-said-rule : (name : Name) (t : Test) → with_rule name t s ≡ with_said s (said_rule name t)
@@ -85,5 +85,5 @@ module _ (s : State) where
   with-history made =
       let since : Name × PlainRelvar = (made.since, base (record { heading = since_heading made; rows = [] }) (since_constraints made)) in
       let during : Name × PlainRelvar = (made.during, base (record { heading = during_heading made; rows = [] }) (during_constraints made)) in
-      let both : Name × PlainRelvar = (made.view, view (view_of made) (Some (made.since, made.during))) in
+      let both : Name × PlainRelvar = (made.view, view (view_of made) (of_history (made.since, made.during))) in
       λ i. record { ordinals = no-ordinals i; relvars = three-behind s.relvars since during both i; rules = no-rules i; accepted = s.accepted }

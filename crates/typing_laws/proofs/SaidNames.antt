@@ -12,7 +12,7 @@ use Rattle.value_core.specs.declared.constraint.Constraint.{Constraint}
 use Rattle.value_core.specs.declared.constraint.Constraint.TheVariants.{Key, Packed, WhenUnpacked, UKey, Foreign, History}
 use Rattle.value_core.specs.declared.list.OrdinalNames.{OrdinalNames}
 use Rattle.value_core.specs.Values.{Name}
-use Rattle.tree_core.specs.Relvars.{State, PlainRelvar, base, view, Entries, Rules, relvar_named}
+use Rattle.tree_core.specs.Relvars.{State, derived, of_history, PlainRelvar, base, view, Entries, Rules, relvar_named}
 use Rattle.tree_core.specs.Trees.{Test}
 use Rattle.tree_core.specs.Uses.{is_one_of, test_names_any, references_any, relvar_names_any}
 use Rattle.since_during.specs.Histories.{since_heading, during_heading, since_constraints, during_constraints, view_of}
@@ -74,7 +74,7 @@ own-names (said_view own t) name = or-nothing (is_some (relvar_named (entries_sa
 own-names (said_history made) name =
     or-nothing (is_some (relvar_named (entries_said (said_history made)) name))
     ∙ three-have made.since made.during made.view name (base (record { heading = since_heading made; rows = [] }) (since_constraints made))
-    (base (record { heading = during_heading made; rows = [] }) (during_constraints made)) (view (view_of made) (Some (made.since, made.during)))
+    (base (record { heading = during_heading made; rows = [] }) (during_constraints made)) (view (view_of made) (of_history (made.since, made.during)))
 own-names (said_rule own t) name = refl
 
 pub taken-with : (s : State) (d : Said) (name : Name) → is_taken (with_said s d) name ≡ (is_taken s name || is_one_of (names_said d) name)
@@ -111,6 +111,6 @@ module _ (some : Name → Bool) where
       → said_names_any some d ≡ false
   said-unused (said_ordinal own names) entries rules = refl
   said-unused (said_base own heading typed) entries rules = all-unused own typed (or_parts (list_any (references_any some) typed) false entries).0
-  said-unused (said_view own t) entries rules = (or_parts (relvar_names_any some (view t None)) false entries).0
+  said-unused (said_view own t) entries rules = (or_parts (relvar_names_any some (view t derived)) false entries).0
   said-unused (said_history made) entries rules = refl
   said-unused (said_rule own t) entries rules = (or_parts (test_names_any some t) false rules).0

@@ -19,7 +19,7 @@ use Rattle.scalar_typing.specs.Names.{point_type}
 use Rattle.relation_typing.specs.Attributes.{name_typed}
 use Rattle.relation_typing.specs.Headings.{heading_typed}
 use Rattle.tree_core.specs.declared.declaration.HistoryData.{HistoryData}
-use Rattle.tree_core.specs.Relvars.{State}
+use Rattle.tree_core.specs.Relvars.{State, derived}
 use Rattle.tree_core.specs.Trees.{Tree, Test}
 use Rattle.meaning_core.specs.Declarations.{ordinal_type, base_relvar, view_relvar}
 use Rattle.node_typing.specs.Positions.{check}
@@ -170,7 +170,7 @@ module _ (s : State) where
           ltb-true (length s.relvars) most_relvars (check-holds w.place E22 (nat_lt (length s.relvars) most_relvars) tt rooms.0 few.2),
           leb-true (nodes_of s.relvars t.0) most_nodes (check-holds w.place E22 (nat_le (nodes_of s.relvars t.0) most_nodes) tt few.0 few.1),
         ),
-        given-by declare_view (view_declared s w rel) (view_relvar name.0 t.0 None) p h (d.1 ∙ sym rooms.2),
+        given-by declare_view (view_declared s w rel) (view_relvar name.0 t.0 derived) p h (d.1 ∙ sym rooms.2),
       )
 
   rule-says : (at : Place) (w : Word) (test : TestP) (p : Plain) → checked s (syntax.DeclareRule at w test) ≡ Ok p → IsSaid s (syntax.DeclareRule at w test) p
@@ -262,12 +262,12 @@ module _ (s : State) where
       (joined-of (room_for s w.place) _ tt (base_relvar name heading typed) (room-holds w.place room) refl))))
 
   says-view : (w : Word) (rel : RelP) (name : Name) (t : Tree) → name_typed w ≡ Ok name → tree_typed s rel ≡ Ok t → is_taken s name ≡ false → length s.relvars < most_relvars
-      → nodes_of s.relvars t ≤ most_nodes → view_declared s w rel ≡ Ok (view_relvar name t None)
+      → nodes_of s.relvars t ≤ most_nodes → view_declared s w rel ≡ Ok (view_relvar name t derived)
   unfolding view_declared
   says-view w rel name t one two free room few =
-      joined-of (new_name s w) _ name (view_relvar name t None) (new-joined s w name one free)
-      (joined-of (tree_typed s rel) _ t (view_relvar name t None) two
-      (joined-of (room_for_view s w.place t) _ tt (view_relvar name t None)
+      joined-of (new_name s w) _ name (view_relvar name t derived) (new-joined s w name one free)
+      (joined-of (tree_typed s rel) _ t (view_relvar name t derived) two
+      (joined-of (room_for_view s w.place t) _ tt (view_relvar name t derived)
       (joined-of (check w.place E22 (nat_le (nodes_of s.relvars t) most_nodes)) _ tt tt
       (check-given w.place E22 (nat_le (nodes_of s.relvars t) most_nodes) tt (le-leb (nodes_of s.relvars t) most_nodes few)) (room-holds w.place room)) refl))
 
@@ -303,7 +303,7 @@ module _ (s : State) where
   says-checked (syntax.DeclareRelvar at w (syntax.BaseRelvar there g cs)) (said_base name heading typed) says free room =
       gives-by declare_base (relvar_declared s w g cs) (base_relvar name heading typed) (says-base w g cs name heading typed says.0 says.1 says.2 says.3 free.0.0 room)
   says-checked (syntax.DeclareRelvar at w (syntax.View there rel)) (said_view name t) says free room =
-      gives-by declare_view (view_declared s w rel) (view_relvar name t None) (says-view w rel name t says.0 says.1 free.0.0 room.0 room.1)
+      gives-by declare_view (view_declared s w rel) (view_relvar name t derived) (says-view w rel name t says.0 says.1 free.0.0 room.0 room.1)
   says-checked (syntax.DeclareHistory at v g key b p d i t) (said_history made) says free room =
       gives-by declare_history (history_declared s at v g key b p d i t) made (says-history at v g key b p d i t made says free room)
   says-checked (syntax.DeclareRule at w test) (said_rule name t) says free room =

@@ -21,7 +21,7 @@ use Rattle.scalar_typing.specs.Names.{point_type}
 use Rattle.relation_typing.specs.Attributes.{name_typed}
 use Rattle.relation_typing.specs.Headings.{heading_typed}
 use Rattle.tree_core.specs.declared.declaration.HistoryData.{HistoryData}
-use Rattle.tree_core.specs.Relvars.{State, base, view, Entries, Rules}
+use Rattle.tree_core.specs.Relvars.{State, derived, of_history, base, view, Entries, Rules}
 use Rattle.tree_core.specs.Trees.{Tree, Test}
 use Rattle.tree_core.specs.Uses.{names_any, test_names_any}
 use Rattle.meaning_core.specs.Declarations.{ordinal_type, base_relvar, view_relvar}
@@ -170,7 +170,7 @@ said_names_any some (said_rule name t) = test_names_any some t
 abbrev pub plain_of : Said → Plain
 plain_of (said_ordinal name names) = declare_ordinal (ordinal_type name names)
 plain_of (said_base name heading typed) = declare_base (base_relvar name heading typed)
-plain_of (said_view name t) = declare_view (view_relvar name t None)
+plain_of (said_view name t) = declare_view (view_relvar name t derived)
 plain_of (said_history made) = declare_history made
 plain_of (said_rule name t) = declare_rule name t
 
@@ -194,11 +194,11 @@ HasRoom s (said_rule name t) = (test_nodes s.relvars t ≤ most_nodes) × (lengt
 abbrev pub entries_said : Said → Entries
 entries_said (said_ordinal name names) = []
 entries_said (said_base name heading typed) = (name, base (record { heading = heading; rows = [] }) typed) ∷ []
-entries_said (said_view name t) = (name, view t None) ∷ []
+entries_said (said_view name t) = (name, view t derived) ∷ []
 entries_said (said_history made) =
     (made.since, base (record { heading = since_heading made; rows = [] }) (since_constraints made))
     ∷ (made.during, base (record { heading = during_heading made; rows = [] }) (during_constraints made))
-    ∷ (made.view, view (view_of made) (Some (made.since, made.during)))
+    ∷ (made.view, view (view_of made) (of_history (made.since, made.during)))
     ∷ []
 entries_said (said_rule name t) = []
 

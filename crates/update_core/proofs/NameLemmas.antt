@@ -37,10 +37,10 @@ base-declared sizes before ((own, base value constraints) ∷ rest) name are =
       | true ↦ λ is. are.0.0
       | false ↦ base-declared sizes (before ++ (own, base value constraints) ∷ []) rest name are.1
     ]
-base-declared sizes before ((own, view t history) ∷ rest) name are =
-    elim (bytes_eq own name) as (λ b. IsBase (cond b (Some (view t history)) (relvar_named rest name)) → IsTrue (is_declared sizes (heading_if (cond b (Some (view t history)) (relvar_named rest name))))) [
+base-declared sizes before ((own, view t kind) ∷ rest) name are =
+    elim (bytes_eq own name) as (λ b. IsBase (cond b (Some (view t kind)) (relvar_named rest name)) → IsTrue (is_declared sizes (heading_if (cond b (Some (view t kind)) (relvar_named rest name))))) [
       | true ↦ λ is. absurd is
-      | false ↦ base-declared sizes (before ++ (own, view t history) ∷ []) rest name are.1
+      | false ↦ base-declared sizes (before ++ (own, view t kind) ∷ []) rest name are.1
     ]
 base-declared sizes before ((own, log of side last value) ∷ rest) name are =
     elim (bytes_eq own name) as (λ b. IsBase (cond b (Some (log of side last value)) (relvar_named rest name)) → IsTrue (is_declared sizes (heading_if (cond b (Some (log of side last value)) (relvar_named rest name))))) [

@@ -45,7 +45,7 @@ after-counted s (Refusal refuse) e = absurd (true≢false (sym e))
 declared-count : (s : State) (d : PlainDeclaration) → (with_declaration s d).accepted ≡ s.accepted
 declared-count s (ordinal_type name values) = refl
 declared-count s (base_relvar name heading constraints) = refl
-declared-count s (view_relvar name t history) = refl
+declared-count s (view_relvar name t kind) = refl
 
 list-count : (ds : List PlainDeclaration) (s : State) → (declared_in s ds).accepted ≡ s.accepted
 list-count [] s = refl

@@ -11,7 +11,7 @@ use Rattle.relation_core.specs.Operators.{restricted, extended}
 use Rattle.relation_core.specs.Parts.{projected}
 use Rattle.scalar_core.specs.declared.tree.Scalar.{Scalar}
 use Rattle.cell_core.specs.Costs.{bound}
-use Rattle.tree_core.specs.Relvars.{read_relvar, relvar_heading}
+use Rattle.tree_core.specs.Relvars.{read_kind, read_relvar, relvar_heading}
 use Rattle.tree_core.specs.Trees.{read_tree, read_form, read_sets, read_aggregate, heading_of}
 use Rattle.tree_core.specs.declared.relvar.Relvar.{Relvar}
 use Rattle.tree_core.specs.declared.tree.RelForm.{RelForm}
@@ -264,7 +264,7 @@ stored-answer-requires g t c = λ κs within.
     let here = ap (λ (s : Scope). work s (read_tree c.in-View.tree)) c.earlier-before.ensures in
     let there = ap (λ (r : Relvar). stored_work c.args.scope.now c.args.at (read_relvar r)) c.in-View.is in
     let before = subst (λ (s : Scope). CanEvaluate s (read_tree c.in-View.tree)) (sym c.earlier-before.ensures)
-    (view_can c.args.scope.now c.args.name.now c.args.at (read_tree c.in-View.tree) c.in-View.history can) in
+    (view_can c.args.scope.now c.args.name.now c.args.at (read_tree c.in-View.tree) (read_kind c.in-View.kind) can) in
     (omega (arith, here, there), (within, (before, record { list = tt; part = tt })))
 
 pub stored-returns-in-Base-clause-value : goal.stored-returns-in-Base-clause-value

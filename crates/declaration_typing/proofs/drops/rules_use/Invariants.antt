@@ -1,4 +1,3 @@
-use denote.Ref.{Bor}
 use Rattle.std.proofs.Common.{◌≡◌, map}
 use Rattle.tree_core.specs.Relvars.{read_rule}
 use Rattle.tree_core.specs.Uses.{is_one_of}

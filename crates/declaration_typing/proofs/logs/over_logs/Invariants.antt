@@ -1,4 +1,3 @@
-use denote.Ref.{Bor}
 use Rattle.std.proofs.Common.{◌≡◌, map}
 use Rattle.tree_core.specs.Relvars.{read_entry}
 use Rattle.declaration_typing.specs.Logs.{names_behind, names_over}
