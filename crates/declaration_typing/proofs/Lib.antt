@@ -6,6 +6,7 @@ pub mod FitLemmas
 mod StateLemmas
 pub mod RelvarLaws
 pub mod HistoryLaws
+pub mod KeptLaws
 pub mod LogLaws
 mod OverLemmas
 mod MoreTypes

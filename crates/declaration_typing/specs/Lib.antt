@@ -6,5 +6,6 @@ pub mod Drops
 pub mod Nodes
 pub mod Views
 pub mod Histories
+pub mod KeptViews
 pub mod Logs
 pub mod Rules

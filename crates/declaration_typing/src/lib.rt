@@ -1,10 +1,11 @@
-//! The typing of what declares and drops: ordinal types, base relvars with their constraints, views, histories, logs, and
-//! database constraints.
+//! The typing of what declares and drops: ordinal types, base relvars with their constraints, views, kept views, histories, logs,
+//! and database constraints.
 #![tactic(auto)]
 
 mod constraints;
 mod drops;
 mod histories;
+mod kept;
 mod lists;
 mod logs;
 mod names;
@@ -17,6 +18,7 @@ mod views;
 
 pub use drops::type_drop;
 pub use histories::type_history;
+pub use kept::type_kept;
 pub use logs::type_log;
 pub use ordinals::type_ordinal;
 pub use relvars::type_relvar;

@@ -17,7 +17,12 @@ use tree_typing::type_tree;
 use utd_syntax::{Rel, Word};
 
 /// The refusal of a view of this expression where it has too many nodes, or there are as many relvars and views as there may be.
-fn room_for_view(alloc: Global, relvars: &Relvars, place: Place, tree: &RelTree) -> Result<(), Stop>
+pub(crate) fn room_for_view(
+    alloc: Global,
+    relvars: &Relvars,
+    place: Place,
+    tree: &RelTree,
+) -> Result<(), Stop>
     ensures { Gives (λ _. tt) result (rules.room_for_view (read_relvars relvars.now) place (read_tree tree.now)) }
 {
     let few = are_few(alloc, tree, relvars)?;

@@ -30,7 +30,7 @@ pub fn type_tree(alloc: Global, rel: &Rel, relvars: &Relvars) -> Result<RelTree,
 }
 
 /// The refusal of the right operand, for which the left one is dropped.
-fn refused(left: RelTree, stop: Stop) -> Result<RelTree, Stop>
+pub(crate) fn refused(left: RelTree, stop: Stop) -> Result<RelTree, Stop>
     ensures { result ≡ Err stop }
 {
     drop(left);
