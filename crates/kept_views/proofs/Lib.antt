@@ -4,5 +4,9 @@ mod GroupLemmas
 mod HeadingLemmas
 mod KeyLemmas
 mod LawLemmas
-mod NameLemmas
+pub mod MovedLemmas
+pub mod NameLemmas
+mod NarrowLemmas
 mod PartedLemmas
+mod SortedLemmas
+pub mod TouchedLemmas

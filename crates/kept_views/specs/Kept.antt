@@ -13,7 +13,7 @@ use Rattle.base_core.specs.Sets.{is_set}
 use Rattle.value_core.specs.Attributes.{among}
 use Rattle.value_core.specs.Headings.{position_of, most_attributes}
 use Rattle.value_core.specs.RowPacking.{packed, unpacked}
-use Rattle.value_core.specs.Values.{Name, Row, Heading, Relation, row_cmp}
+use Rattle.value_core.specs.Values.{Name, Row, Heading, Relation, row_cmp, most_rows}
 use Rattle.relation_core.specs.Agreement.{names_of, common_names, part_of, matched, unmatched}
 use Rattle.relation_core.specs.Intervals.{AreIntervals}
 use Rattle.relation_core.specs.Joins.{HaveEqualKinds, joined_heading, joined}
@@ -24,7 +24,7 @@ pub use Rattle.u_constraints.specs.Constraints.{heading_or_none, rows_or_none}
 use Rattle.kept_views.specs.declared.rule.KeptOp.{KeptOp}
 use Rattle.kept_views.specs.declared.rule.KeptOp.TheVariants.{Union, Intersect, Minus, Join, Matching, NotMatching, Project, Pack}
 use Rattle.kept_views.specs.declared.rule.KeptRule.{KeptRule}
-use Rattle.kept_views.specs.declared.moved.Moved.{Moved}
+use Rattle.kept_views.specs.declared.group_moves.Moved.{Moved}
 
 -- ---- headings and positions
 
@@ -167,8 +167,9 @@ Fits rule left (Some right) = IsPair rule.op rule.left rule.right left.heading r
 
 -- ---- what a view gains and loses
 
--- the rows of the one that the other has not, and the other way round
+-- the rows of the one that the other has not, and the other way round; and the new ones are not too many
 pub record IsMoved (heading : Heading) (old new : List Row) (moved : Moved) : Type 0 where
+  pub few : length new ≤ most_rows
   pub come_heading : moved.come.heading ≡ heading
   pub come : moved.come.rows ≡ subtracted new old
   pub gone_heading : moved.gone.heading ≡ heading

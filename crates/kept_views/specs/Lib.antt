@@ -1,1 +1,3 @@
 pub mod Kept
+pub mod Sorted
+pub mod Touched

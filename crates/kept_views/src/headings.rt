@@ -14,7 +14,7 @@ use std::alloc::Global;
 use value_core::{Heading, Kind, Name, Relation, RowsRefuse, position};
 
 /// Where the attributes at positions among the ones stand among the others.
-pub(crate) fn positions_beside(
+pub fn positions_beside(
     alloc: Global,
     from: &[(Name, Kind)],
     to: &[(Name, Kind)],

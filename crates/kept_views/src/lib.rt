@@ -1,14 +1,20 @@
 //! Views whose rows are stored, and brought up to date by the groups of rows that a change touches.
 #![tactic(auto)]
 
+mod group_moves;
 mod groups;
 mod headings;
 mod keys;
 mod making;
-mod moved;
+mod moving;
 mod rule;
+mod sorting;
+mod touching;
 
+pub use group_moves::{Moved, group_moved};
 pub use groups::group;
+pub use headings::positions_beside;
 pub use making::made;
-pub use moved::{Moved, group_moved};
-pub use rule::{KeptOp, KeptRule};
+pub use moving::moved;
+pub use rule::{KeptOp, KeptRule, Operands};
+pub use touching::touched;

@@ -1,5 +1,5 @@
 // What a stored view is made of.
-use value_core::Positions;
+use value_core::{Positions, Relation};
 
 /// The operator of a stored view, of two operands, or of the left one alone.
 #[derive(Drop)]
@@ -21,4 +21,11 @@ pub struct KeptRule {
     pub op: KeptOp,
     pub left: Positions,
     pub right: Positions,
+}
+
+/// The operands of a stored view: both, or the left one alone.
+#[derive(Clone, Copy)]
+pub struct Operands<'a> {
+    pub left: &'a Relation,
+    pub right: Option<&'a Relation>,
 }

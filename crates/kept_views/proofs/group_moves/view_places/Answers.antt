@@ -7,7 +7,7 @@ use Rattle.value_core.specs.Values.{Heading, Relation, is_heading}
 use Rattle.kept_views.specs.Kept.{Fits, kept_heading, key_names}
 use Rattle.kept_views.proofs.AnswerLemmas.{alone_places}
 use Rattle.kept_views.proofs.GroupLemmas.{view_within}
-use Rattle.kept_views.proofs.moved.view_places.Goals as goal
+use Rattle.kept_views.proofs.group_moves.view_places.Goals as goal
 
 pub returns-in-Some-clause-within : goal.returns-in-Some-clause-within
 returns-in-Some-clause-within c =

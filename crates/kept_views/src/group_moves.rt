@@ -21,8 +21,8 @@ pub struct Moved {
     pub gone: Relation,
 }
 
-// Where the key stands in the view.
-fn view_places(
+/// Where the key stands in the view.
+pub(crate) fn view_places(
     alloc: Global,
     rule: &KeptRule,
     view: &Relation,
