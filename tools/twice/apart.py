@@ -50,4 +50,11 @@ APART = {
         'neither stands on the other; its place is meaning_core, on which nearly all others stand',
     frozenset({('crates/meaning_core/proofs/ElsewhereLemmas.antt', 'each-append'), ('crates/meaning_laws/proofs/EntriesFound.antt', 'each-append')}):
         'the one is of a module with a second parameter; the upper one goes when meaning_laws is next opened',
+    frozenset({('crates/relvar_logs/proofs/CountLemmas.antt', 'left-less'), ('crates/stored_views/proofs/CountLemmas.antt', 'left-less')}): LOWER,
+    frozenset({('crates/relvar_logs/proofs/CountLemmas.antt', 'left-none'), ('crates/stored_views/proofs/CountLemmas.antt', 'left-none')}): LOWER,
+    frozenset({('crates/relvar_logs/proofs/CountLemmas.antt', 'left-all'), ('crates/stored_views/proofs/CountLemmas.antt', 'left-all')}): LOWER,
+    frozenset({('crates/meaning_laws/proofs/ApartLemmas.antt', 'names-fewer'), ('crates/stored_views/proofs/OperandLemmas.antt', 'names_fewer')}):
+        'neither stands on the other; its place is meaning_core, on which nearly all others stand',
+    frozenset({('crates/assign_core/proofs/AdditionLemmas.antt', 'limited_over'), ('crates/stored_views/proofs/MadeLemmas.antt', 'limited_many')}):
+        'neither stands on the other; its place is meaning_core, on which nearly all others stand',
 }
