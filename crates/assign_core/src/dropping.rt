@@ -30,10 +30,7 @@ fn history_in(kind: ViewKind) -> Option<(Name, Name)>
     match kind {
         ViewKind::OfHistory(names) => Some(names),
         ViewKind::Derived => None,
-        ViewKind::Stored(rows) => {
-            drop(rows);
-            None
-        }
+        ViewKind::Stored => None,
     }
 }
 

@@ -27,7 +27,7 @@ fn is_of(name: &Name, kind: &ViewKind) -> bool
     match kind {
         ViewKind::OfHistory(names) => *name == names.0 || *name == names.1,
         ViewKind::Derived => false,
-        ViewKind::Stored(_) => false,
+        ViewKind::Stored => false,
     }
 }
 

@@ -8,6 +8,7 @@ pub mod Places
 pub mod Rows
 pub mod Scalars
 pub mod Sizes
+pub mod StoredRows
 pub mod StoredViews
 pub mod Truths
 pub mod Typing

@@ -53,7 +53,7 @@ fn tree_of_kind<'a>(tree: &'a RelTree, kind: &ViewKind) -> Option<&'a RelTree>
     ensures { option_map (λ t. read_tree t.now) result ≡ tree_of_kind (read_tree tree.now) (read_kind kind.now) }
 {
     match kind {
-        ViewKind::Stored(_) => Some(tree),
+        ViewKind::Stored => Some(tree),
         ViewKind::Derived => None,
         ViewKind::OfHistory(_) => None,
     }

@@ -1,6 +1,6 @@
 -- The state that expressions are evaluated in, as plain data: relvars, views, logs, ordinal types and database constraints, each in order of
 -- declaration, and how many statements were accepted.
---     State, read_relvars      what relvars are read as, and how: of a view whose rows are stored, that they are
+--     State, read_relvars      what relvars are read as, and how
 --     relvar_named, heading_if ..      what is looked up in a state
 use Rattle.std.specs.Prelude.{ℕ, ℤ, List, [], ◌∷◌, map, Option, Some, None, if◌then◌else◌}
 use Rattle.std.specs.Str.{bytes_eq}
@@ -19,7 +19,7 @@ use Rattle.tree_core.specs.declared.relvar.Relvars.{Relvars}
 use Rattle.tree_core.specs.declared.test.RelTest.{RelTest}
 
 -- where the rows of a view come from: its expression; the same for a history's view, with its since relvar and its during relvar; or they are
--- stored
+-- stored too
 pub data PlainKind : Type 0 where
   derived : PlainKind
   of_history : Name × Name → PlainKind
@@ -51,7 +51,7 @@ pub record State : Type 0 where
 abbrev pub read_kind : ViewKind → PlainKind
 read_kind Derived = derived
 read_kind (OfHistory names) = of_history names
-read_kind (Stored rows) = stored
+read_kind Stored = stored
 
 abbrev pub read_relvar : Relvar → PlainRelvar
 read_relvar (Base value constraints) = base value constraints

@@ -41,7 +41,7 @@ fn history_in<'a>(kind: &'a ViewKind) -> Option<&'a (Name, Name)>
     match kind {
         ViewKind::OfHistory(names) => Some(names),
         ViewKind::Derived => None,
-        ViewKind::Stored(_) => None,
+        ViewKind::Stored => None,
     }
 }
 

@@ -15,8 +15,8 @@ pub enum ViewKind {
     Derived,
     /// The same; it is the view of a history, with the names of its since relvar and its during relvar.
     OfHistory((Name, Name)),
-    /// They are stored beside its expression.
-    Stored(Relation),
+    /// The same; they are stored beside the relvars too.
+    Stored,
 }
 
 /// A base relvar with its value and its constraints, a view with its expression, or the log of a base relvar.
