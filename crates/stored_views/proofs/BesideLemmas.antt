@@ -1,17 +1,13 @@
 -- Listed attributes of one heading that stand in another: there they are the same, and interval attributes too.
 --     stands_in      what USING asks of an operand: it has the listed attributes
 --     there_same, there_intervals, there_names      the attributes at their positions there
-use Rattle.std.proofs.Common.{◌≡◌, inl, inr, ℕ, suc, ◌<◌, Bool, true, false, List, [], ◌∷◌, map, length, get_or, refl, sym, ap, ◌∙◌, subst, if◌then◌else◌}
+use Rattle.std.proofs.Common.{◌≡◌, ℕ, ◌<◌, List, map, length, get_or, refl, sym, ap, ◌∙◌, subst}
 use Rattle.std.specs.Bool.{IsTrue}
-use Rattle.std.specs.Cmp.Lexicographic.{texts_ties, nat_list_eq_equiv}
-use Rattle.std.specs.Ordering.{is_eq}
-use Rattle.std.specs.Str.{bytes_eq}
 use Rattle.std.proofs.lemmas.Bool.{and_parts}
 use Rattle.std.proofs.lemmas.List.{map-id}
 use Rattle.base_core.proofs.ListLemmas.{All-In, map-In, In-get_or, IsDistinct-map}
 use Rattle.base_core.proofs.MemberLemmas.{In-map, list_all-In}
 use Rattle.base_core.proofs.SetLemmas.{In, Ascends}
-use Rattle.base_core.proofs.SetOperatorLemmas.{AllAfter-In}
 use Rattle.value_core.specs.Headings.{has_name, position_of}
 use Rattle.value_core.specs.Values.{Name, Heading, attribute_cmp}
 use Rattle.value_core.specs.declared.kind.Kind.{Kind}

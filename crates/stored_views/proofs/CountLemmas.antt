@@ -1,21 +1,18 @@
--- Rows of stored views, counted entry by entry.
---     next_room, too_many, not_meant, room_end      the room that is left behind an entry
---     next_cost      what has been taken
---     room_changed, cost_changed      new values of base relvars change no stored view
---     told_put, takes_put, none_put, idle_put      the entry at a place is told
-use Rattle.std.proofs.Common.{◌≡◌, ℕ, zero, suc, ◌+◌, ◌-◌, ◌<◌, ◌≤◌, Bool, true, false, cond, nat_le, List, [], ◌∷◌, drop, map, length, refl, sym, ap, ◌∙◌, subst, arith, Option, Some, None, Ok, Err}
-use Rattle.std.specs.Prelude.{◌&&◌, slice_get, IfOk, Result}
+-- Rows of stored views, counted entry by entry, as they are with those that stand ready.
+--     too_many, next_room, room_left      the room that is left behind an entry
+--     rows_there      the rows of the entry at a place
+--     view_there, view_put, none_put      those of a stored view
+--     view_counted, none_counted      how many they are
+use Rattle.std.proofs.Common.{◌≡◌, ℕ, zero, suc, ◌+◌, ◌-◌, ◌<◌, ◌≤◌, Bool, true, false, cond, nat_le, List, [], ◌∷◌, drop, get_or, length, refl, sym, ap, ◌∙◌, subst, arith, Option, Some, None}
 use Rattle.std.proofs.lemmas.Bool.Decides.{nat_tests}
-use Rattle.point_core.specs.declared.memory.Memory.{Memory}
-use Rattle.value_core.specs.Values.{Name, Relation}
-use Rattle.tree_core.specs.declared.relvar.Relvar.{Relvar}
-use Rattle.tree_core.specs.Relvars.{PlainRelvar, base, view, log, Entries, read_entry, read_relvar}
+use Rattle.value_core.specs.Values.{Relation}
+use Rattle.tree_core.specs.Relvars.{PlainRelvar, base, view, log, derived, of_history, stored, Entries}
 use Rattle.tree_core.specs.Trees.{Tree}
-use Rattle.meaning_core.specs.Meanings.{RowsMeant, meaning_in}
-use Rattle.relvar_logs.specs.Changes.{Changes, changed, changed_relvar, IsSoAt}
+use Rattle.meaning_core.specs.StoredRows.{IsValueThere, HasItsRows, HaveTheirRows}
+use Rattle.relvar_logs.specs.Changes.{IsSoAt}
 use Rattle.relvar_logs.specs.Room.{left_of}
-use Rattle.relvar_logs.proofs.EntryLemmas.{so_put}
-use Rattle.stored_views.specs.Stored.{stored_tree, count_meant, is_meant, count_if, is_meant_if, rows_among, are_meant_among, room_among, made_cost, cost_if, cost_among, count_told, told_if, IsTold, TakesSo}
+use Rattle.stored_views.specs.NextRows.{newer, renewed}
+use Rattle.stored_views.specs.Stored.{stored_tree, count_meant, count_if, rows_among, IsCounted}
 
 -- ---- what is left
 
@@ -39,117 +36,86 @@ left-all : (room : ℕ) (b : Bool) → nat_le 0 room ≡ b → cond b (Some (roo
 left-all room true e = ap Some (omega arith)
 left-all room false e = let m : room < 0 = grind (arith, nat_tests) in absurd (omega (arith, m))
 
-either-way : (b : Bool) (o : Option ℕ) → cond b o o ≡ o
-either-way true o = refl
-either-way false o = refl
-
--- ---- entries from a place on
+-- ---- the rows of the entries from a place on
 
 module _ (all : Entries) where
-  told_some : (o : Option Tree) (count : ℕ) → Some count ≡ told_if all o → (count_if all o ≡ count) × (is_meant_if all o ≡ true)
-  told_some None count e = (cc, refl)
-  told_some (Some t) count e = by (meaning_in all t) e
-    where
-      by : (m : RowsMeant) → Some count ≡ count_told m → (count_meant m ≡ count) × (is_meant m ≡ true)
-      by (Ok rows) f = (cc, refl)
-      by (Err d) f = absurd (cc)
+  rows-there : (es : Entries) (i count : ℕ) → IsSoAt i (IsCounted all count) es → rows_among all (drop i es) ≡ count + rows_among all (drop (suc i) es)
+  rows-there [] i count h = absurd h
+  rows-there (e ∷ es) zero count h = ap (λ n. n + rows_among all es) (sym h.is)
+  rows-there (e ∷ es) (suc i) count h = rows-there es i count h
 
-  told_none : (o : Option Tree) → None ≡ told_if all o → is_meant_if all o ≡ false
-  told_none None e = absurd (cc)
-  told_none (Some t) e = by (meaning_in all t) e
-    where
-      by : (m : RowsMeant) → None ≡ count_told m → is_meant m ≡ false
-      by (Ok rows) f = absurd (cc)
-      by (Err d) f = refl
+  none-there : (es : Entries) (i : ℕ) → length es ≤ i → rows_among all (drop i es) ≡ 0
+  none-there [] zero l = refl
+  none-there [] (suc i) l = refl
+  none-there (e ∷ es) zero l = absurd (omega (arith, l))
+  none-there (e ∷ es) (suc i) l = none-there es i (omega (arith, l))
 
-  -- the room beside an entry that has so many rows
-  told_room : (room count : ℕ) (r : PlainRelvar) (b : Bool) (n : ℕ) → IsTold all (Some count) r
-      → cond (is_meant_if all (stored_tree r) && b) (left_of room (count_if all (stored_tree r) + n)) None ≡ cond b (left_of room (count + n)) None
-  told_room room count r b n told =
-      let w = told_some (stored_tree r) count told.is in
-      λ i. cond (w.1 i && b) (left_of room (w.0 i + n)) None
+  module _ (es : Entries) (most : ℕ) where
+    pub too_many : (i room count : ℕ) → left_of most (rows_among all es) ≡ left_of room (rows_among all (drop i es)) → IsSoAt i (IsCounted all count) es → room < count
+        → None ≡ left_of most (rows_among all es)
+    too_many i room count e h l =
+        let n = rows_among all (drop (suc i) es) in
+        sym (e ∙ (ap (left_of room) (rows-there es i count h) ∙ left-none room count n (nat_le (count + n) room) l refl))
 
-  pub next_room : (es : Entries) (i room count : ℕ) → IsSoAt i (IsTold all (Some count)) es → count ≤ room → room_among room all (drop i es) ≡ room_among (room - count) all (drop (suc i) es)
-  next_room [] i room count h l = absurd h
-  next_room (e ∷ es) zero room count h l =
-      let n = rows_among all es in
-      told_room room count e.1 (are_meant_among all es) n h
-      ∙ ap (λ (o : Option ℕ). cond (are_meant_among all es) o None) (left-less room count n (nat_le (count + n) room) (nat_le n (room - count)) l refl refl)
-  next_room (e ∷ es) (suc i) room count h l = next_room es i room count h l
+    pub next_room : (i room count : ℕ) → left_of most (rows_among all es) ≡ left_of room (rows_among all (drop i es)) → IsSoAt i (IsCounted all count) es → count ≤ room
+        → left_of most (rows_among all es) ≡ left_of (room - count) (rows_among all (drop (suc i) es))
+    next_room i room count e h l =
+        let n = rows_among all (drop (suc i) es) in
+        e ∙ (ap (left_of room) (rows-there es i count h) ∙ left-less room count n (nat_le (count + n) room) (nat_le n (room - count)) l refl refl)
 
-  pub too_many : (es : Entries) (i room count : ℕ) → IsSoAt i (IsTold all (Some count)) es → room < count → room_among room all (drop i es) ≡ None
-  too_many [] i room count h l = absurd h
-  too_many (e ∷ es) zero room count h l =
-      let n = rows_among all es in
-      told_room room count e.1 (are_meant_among all es) n h
-      ∙ (ap (λ (o : Option ℕ). cond (are_meant_among all es) o None) (left-none room count n (nat_le (count + n) room) l refl) ∙ either-way (are_meant_among all es) None)
-  too_many (e ∷ es) (suc i) room count h l = too_many es i room count h l
+    pub room_left : (i room : ℕ) → left_of most (rows_among all es) ≡ left_of room (rows_among all (drop i es)) → length es ≤ i → Some room ≡ left_of most (rows_among all es)
+    room_left i room e l = sym (e ∙ (ap (left_of room) (none-there es i l) ∙ left-all room (nat_le 0 room) refl))
 
-  pub not_meant : (es : Entries) (i room : ℕ) → IsSoAt i (IsTold all None) es → room_among room all (drop i es) ≡ None
-  not_meant [] i room h = absurd h
-  not_meant (e ∷ es) zero room h =
-      ap (λ (b : Bool). cond (b && are_meant_among all es) (left_of room (count_if all (stored_tree e.1) + rows_among all es)) None) (told_none (stored_tree e.1) h.is)
-  not_meant (e ∷ es) (suc i) room h = not_meant es i room h
+-- ---- the rows of one entry
 
-  drop_all : (es : Entries) (i : ℕ) → length es ≤ i → drop i es ≡ []
-  drop_all [] zero l = refl
-  drop_all [] (suc i) l = refl
-  drop_all (e ∷ es) zero l = absurd (omega (arith, l))
-  drop_all (e ∷ es) (suc i) l = drop_all es i (omega (arith, l))
+-- what needs no rows may have any
+any_instead : (all : Entries) (r : PlainRelvar) (o : Option Relation) → HasItsRows all r None → HasItsRows all r o
+any_instead all (base value constraints) o h = tt
+any_instead all (view t derived) o h = tt
+any_instead all (view t (of_history names)) o h = tt
+any_instead all (view t stored) o h = absurd h
+any_instead all (log of side last value) o h = tt
 
-  pub room_end : (es : Entries) (i room : ℕ) → length es ≤ i → room_among room all (drop i es) ≡ Some room
-  room_end es i room l = ap (room_among room all) (drop_all es i l) ∙ left-all room (nat_le 0 room) refl
+bare_there : (all es : Entries) (i : ℕ) (o : Option Relation) → HaveTheirRows all es [] → i < length es → IsSoAt i (λ r. HasItsRows all r o) es
+bare_there all [] i o h l = absurd (omega (arith, l))
+bare_there all (e ∷ es) zero o h l = any_instead all e.1 o h.0
+bare_there all (e ∷ es) (suc i) o h l = bare_there all es i o h.1 (omega (arith, l))
 
-  -- ---- what it takes
+pub rows_there : (all es : Entries) (next rows : List (Option Relation)) (i : ℕ) → HaveTheirRows all es (renewed next rows) → i < length es
+    → IsSoAt i (λ r. HasItsRows all r (newer (get_or next i None) (get_or rows i None))) es
+rows_there all [] next rows i h l = absurd (omega (arith, l))
+rows_there all (e ∷ es) [] [] i h l = bare_there all (e ∷ es) i None h l
+rows_there all (e ∷ es) [] (o ∷ rows) zero h l = h.0
+rows_there all (e ∷ es) [] (o ∷ rows) (suc i) h l = rows_there all es [] rows i h.1 (omega (arith, l))
+rows_there all (e ∷ es) (n ∷ next) [] i h l = bare_there all (e ∷ es) i (newer (get_or (n ∷ next) i None) None) h l
+rows_there all (e ∷ es) (n ∷ next) (o ∷ rows) zero h l = h.0
+rows_there all (e ∷ es) (n ∷ next) (o ∷ rows) (suc i) h l = rows_there all es next rows i h.1 (omega (arith, l))
 
-  pub next_cost : (es : Entries) (i old new most : ℕ) → IsSoAt i (TakesSo all old new) es → old + cost_among all (drop i es) ≤ most → new + cost_among all (drop (suc i) es) ≤ most
-  next_cost [] i old new most h l = absurd h
-  next_cost (e ∷ es) zero old new most h l = let m = h.most in omega (arith, m, l)
-  next_cost (e ∷ es) (suc i) old new most h l = next_cost es i old new most h l
+-- of a stored view they are those that its expression means
+pub view_there : (all : Entries) (r : PlainRelvar) (t : Tree) (o : Option Relation) → Some t ≡ stored_tree r → HasItsRows all r o → IsValueThere all t o
+view_there all (base value constraints) t o e h = absurd (cc)
+view_there all (view u derived) t o e h = absurd (cc)
+view_there all (view u (of_history names)) t o e h = absurd (cc)
+view_there all (view u stored) t o e h = let same : u ≡ t = cc in subst (λ (k : Tree). IsValueThere all k o) same h
+view_there all (log of side last value) t o e h = absurd (cc)
 
-  -- ---- new values
+pub view_put : (all : Entries) (r : PlainRelvar) (t : Tree) (o : Option Relation) → Some t ≡ stored_tree r → IsValueThere all t o → HasItsRows all r o
+view_put all (base value constraints) t o e h = tt
+view_put all (view u derived) t o e h = tt
+view_put all (view u (of_history names)) t o e h = tt
+view_put all (view u stored) t o e h = let same : t ≡ u = cc in subst (λ (k : Tree). IsValueThere all k o) same h
+view_put all (log of side last value) t o e h = tt
 
-  same_tree : (c : Option Relation) (r : PlainRelvar) → stored_tree (changed_relvar c r) ≡ stored_tree r
-  same_tree None r = refl
-  same_tree (Some v) (base value constraints) = refl
-  same_tree (Some v) (view t kind) = refl
-  same_tree (Some v) (log of side last value) = refl
+pub none_put : (all : Entries) (r : PlainRelvar) (o : Option Relation) → None ≡ stored_tree r → HasItsRows all r o
+none_put all (base value constraints) o e = tt
+none_put all (view t derived) o e = tt
+none_put all (view t (of_history names)) o e = tt
+none_put all (view t stored) o e = absurd (cc)
+none_put all (log of side last value) o e = tt
 
-  rows_changed : (cs : Changes) (es : Entries) → rows_among all (changed cs es) ≡ rows_among all es
-  rows_changed [] es = refl
-  rows_changed (c ∷ cs) [] = refl
-  rows_changed (c ∷ cs) (e ∷ es) = λ i. count_if all (same_tree c e.1 i) + rows_changed cs es i
+-- how many they are
+pub view_counted : (all : Entries) (r : PlainRelvar) (t : Tree) (value : Relation) (count : ℕ) → Some t ≡ stored_tree r → IsValueThere all t (Some value) → count ≡ length value.rows → IsCounted all count r
+view_counted all r t value count e is l = record { is = l ∙ (sym (ap count_meant is.means) ∙ ap (count_if all) e) }
 
-  meant_changed : (cs : Changes) (es : Entries) → are_meant_among all (changed cs es) ≡ are_meant_among all es
-  meant_changed [] es = refl
-  meant_changed (c ∷ cs) [] = refl
-  meant_changed (c ∷ cs) (e ∷ es) = λ i. is_meant_if all (same_tree c e.1 i) && meant_changed cs es i
-
-  pub room_changed : (cs : Changes) (es : Entries) (most : ℕ) → room_among most all (changed cs es) ≡ room_among most all es
-  room_changed cs es most = λ i. cond (meant_changed cs es i) (left_of most (rows_changed cs es i)) None
-
-  pub cost_changed : (cs : Changes) (es : Entries) → cost_among all (changed cs es) ≡ cost_among all es
-  cost_changed [] es = refl
-  cost_changed (c ∷ cs) [] = refl
-  cost_changed (c ∷ cs) (e ∷ es) = λ i. cost_if all (same_tree c e.1 i) + cost_changed cs es i
-
-  -- what has been taken is no more than what all take
-  pub taken_cost : (cs : Changes) (es : Entries) (old new left : ℕ) → new + left ≤ old + cost_among all es → new ≤ old + cost_among all (changed cs es)
-  taken_cost cs es old new left h = subst (λ (n : ℕ). new ≤ old + n) (sym (cost_changed cs es)) (omega (arith, h))
-
--- ---- one entry
-
-module _ (all : Entries) (es : List (Name × Relvar)) (i : ℕ) (k : Name) (r : Relvar) (there : slice_get es i ≡ Some (k, r)) where
-  pub told_put : (t : Tree) (result : Result (Option ℕ) Memory) → Some t ≡ stored_tree (read_relvar r) → IfOk result (λ told. told ≡ count_told (meaning_in all t))
-      → IfOk result (λ told. IsSoAt i (IsTold all told) (map read_entry es))
-  told_put t (Ok told) e h = so_put es i (IsTold all told) k r there (record { is = h ∙ ap (told_if all) e })
-  told_put t (Err d) e h = h
-
-  pub takes_put : (t : Tree) (old new : ℕ) → Some t ≡ stored_tree (read_relvar r) → new ≤ old + made_cost all t → IsSoAt i (TakesSo all old new) (map read_entry es)
-  takes_put t old new e h = so_put es i (TakesSo all old new) k r there (record { most = subst (λ (o : Option Tree). new ≤ old + cost_if all o) e h })
-
-  pub none_put : None ≡ stored_tree (read_relvar r) → IsSoAt i (IsTold all (Some 0)) (map read_entry es)
-  none_put e = so_put es i (IsTold all (Some 0)) k r there (record { is = ap (told_if all) e })
-
-  pub idle_put : (old : ℕ) → IsSoAt i (TakesSo all old old) (map read_entry es)
-  idle_put old = so_put es i (TakesSo all old old) k r there (record { most = omega arith })
+pub none_counted : (all : Entries) (r : PlainRelvar) → None ≡ stored_tree r → IsCounted all 0 r
+none_counted all r e = record { is = ap (count_if all) e }

@@ -1,5 +1,6 @@
 -- What is told of the rows that a rule gives is told of what the expression means.
 --     rows_told      of the rows
+--     limited_many      too many rows are a fault
 --     made_fits, made_cost_told      what the call that makes them asks, and what it takes
 use Rattle.std.proofs.Common.{◌≡◌, ◌<◌, ◌≤◌, ◌+◌, ℕ, List, length, Option, Result, Ok, Err, sym, ap, ◌∙◌, subst, arith}
 use Rattle.std.specs.Prelude.{MatchResult}
@@ -23,7 +24,7 @@ use Rattle.stored_views.specs.Rules.{rule_for, place_for, IsMade, IsUnmade}
 use Rattle.stored_views.specs.Stored.{made_cost}
 use Rattle.stored_views.proofs.MeantLemmas.{IsRuleOf, made_price}
 
-limited_many : (place : Place) (rows : List Row) → most_rows < length rows → limited place rows ≡ Err (fault place E35)
+pub limited_many : (place : Place) (rows : List Row) → most_rows < length rows → limited place rows ≡ Err (fault place E35)
 limited_many place rows h = grind (arith, nat_tests)
 
 module _ (all : Entries) (t : Tree) (left : Relation) (right : Option Relation) (rule : KeptRule) (same : rule ≡ rule_for t) where

@@ -2,29 +2,29 @@
 --     change_there      it stands where the relvar does
 --     none_named      no relvar has the name
 --     base_there, headed_there      what is known of the relvar
-use Rattle.std.proofs.Common.{◌≡◌, ℕ, zero, suc, ◌<◌, Bool, cond, List, [], ◌∷◌, map, length, get_or, refl, sym, ap, ◌∙◌, subst, arith, false, Option, Some, None}
-use Rattle.std.specs.Prelude.{slice_index_or}
+use Rattle.std.proofs.Common.{◌≡◌, ℕ, zero, suc, ◌<◌, Bool, cond, List, [], ◌∷◌, map, length, get_or, refl, sym, ap, ◌∙◌, subst, arith, false, Some, None}
 use Rattle.std.specs.Str.{bytes_eq}
-use Rattle.value_core.specs.Values.{Name, Heading, Relation}
+use Rattle.value_core.specs.Values.{Name, Heading}
 use Rattle.tree_core.specs.declared.relvar.Relvar.{Relvar}
 use Rattle.tree_core.specs.Relvars.{PlainRelvar, Entries, relvar_named, relvar_heading, heading_if, read_entry, read_relvar}
 use Rattle.meaning_core.specs.Names.{IsFirstAt}
 use Rattle.meaning_core.specs.WellMade.{IsBase}
 use Rattle.meaning_core.proofs.EntryLemmas.{named_first}
-use Rattle.relvar_logs.specs.Changes.{Changes, IsChange, AreChanges, changed, changed_relvar}
+use Rattle.relvar_logs.specs.Changes.{Changes, IsChange, changed, changed_relvar}
 use Rattle.relvar_logs.proofs.NextLemmas.{turned-name}
+use Rattle.stored_views.specs.Moves.{AreFirstChanges}
 
 -- the change at the relvar's place is its own, and it is changed so
-pub change_there : (es : Entries) (cs : Changes) (name : Name) (i : ℕ) (r : PlainRelvar) (d : Option Relation) → AreChanges cs es → IsFirstAt es name i r
-    → IsChange (slice_index_or cs i d) r × (relvar_named (changed cs es) name ≡ Some (changed_relvar (slice_index_or cs i d) r))
-change_there [] cs name i r d are first = absurd first
-change_there (e ∷ es) [] name i r d are first = absurd are
-change_there (e ∷ es) (c ∷ cs) name zero r d are first = (
+pub change_there : (es : Entries) (cs : Changes) (name : Name) (i : ℕ) (r : PlainRelvar) → AreFirstChanges cs es → IsFirstAt es name i r
+    → IsChange (get_or cs i None) r × (relvar_named (changed cs es) name ≡ Some (changed_relvar (get_or cs i None) r))
+change_there [] cs name i r are first = absurd first
+change_there (e ∷ es) [] name i r are first = (tt, named_first (e ∷ es) name i r first)
+change_there (e ∷ es) (c ∷ cs) name zero r are first = (
   subst (IsChange c) first.1 are.0,
   ap (λ (b : Bool). cond b (Some (changed_relvar c e.1)) (relvar_named (changed cs es) name)) first.0 ∙ ap (λ (q : PlainRelvar). Some (changed_relvar c q)) first.1,
 )
-change_there (e ∷ es) (c ∷ cs) name (suc i) r d are first =
-    let more = change_there es cs name i r d are.1 first.1 in
+change_there (e ∷ es) (c ∷ cs) name (suc i) r are first =
+    let more = change_there es cs name i r are.1 first.1 in
     (more.0, ap (λ (b : Bool). cond b (Some (changed_relvar c e.1)) (relvar_named (changed cs es) name)) first.0 ∙ more.1)
 
 pub none_named : (es : List (Name × Relvar)) (name : Name)

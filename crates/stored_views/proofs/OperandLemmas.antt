@@ -24,7 +24,7 @@ use Rattle.stored_views.specs.Stored.{stored_tree}
 
 -- ---- operands
 
-base_from : (o : Option PlainRelvar) → not (is_base o) ≡ false → IsBase o
+pub base_from : (o : Option PlainRelvar) → not (is_base o) ≡ false → IsBase o
 base_from None e = absurd (true≢false e)
 base_from (Some (base value constraints)) e = tt
 base_from (Some (view t kind)) e = absurd (true≢false e)

@@ -33,7 +33,7 @@ value_of_relvar known (base value constraints) x e = let same : value ≡ x = cc
 value_of_relvar known (view t kind) x e = absurd (cc)
 value_of_relvar known (log of side last value) x e = absurd (cc)
 
-found_value : (all : Entries) (name : Name) (x : Relation) → value_if (relvar_named all name) ≡ Some x → found (Ok []) (known_in all) name ≡ Ok x.rows
+pub found_value : (all : Entries) (name : Name) (x : Relation) → value_if (relvar_named all name) ≡ Some x → found (Ok []) (known_in all) name ≡ Ok x.rows
 found_value all name x e =
     let w = value_there all name x e in
     ap (λ (es : Entries). found (Ok []) (each_in relvar_meaning es) name) (sym (take_all (length all) all (omega arith)))

@@ -1,3 +1,6 @@
+pub mod Moves
+pub mod NextRows
 pub mod Operands
 pub mod Rules
 pub mod Stored
+pub mod Without

@@ -3,17 +3,15 @@
 --     is_stored, has_stored      whether an entry is one, and whether there is one
 --     stored_rows, rows_of_stored      the rows of a stored view, counted, and those of all
 --     are_stored_few      whether each of them means rows, and no fault of too many
---     room_beside      what is left of a number without these rows
---     made_cost, stored_cost      what it takes to make the rows of a stored view, and those of all
---     IsTold, TakesSo      what is told of an entry, and what that takes
-use Rattle.std.specs.Prelude.{◌≡◌, ℕ, ◌+◌, ◌≤◌, Bool, true, false, [], ◌∷◌, length, Option, Some, None, is_some, Ok, Err, if◌then◌else◌}
+--     IsCounted      so many rows an entry has
+--     made_cost      what it takes to make the rows of a stored view
+use Rattle.std.specs.Prelude.{◌≡◌, ℕ, ◌+◌, Bool, true, false, [], ◌∷◌, length, Option, Some, None, is_some, Ok, Err}
 use Rattle.std.specs.List.{list_any, list_all}
 use Rattle.tree_core.specs.Relvars.{PlainKind, derived, of_history, stored, PlainRelvar, base, view, log, Entries, relvar_named}
 use Rattle.tree_core.specs.Trees.{Tree, named, infix_of, project, pack, using}
 use Rattle.cell_core.specs.Costs.{bound}
 use Rattle.meaning_core.specs.Logs.{base_rows}
 use Rattle.meaning_core.specs.Meanings.{RowsMeant, meaning_in}
-use Rattle.relvar_logs.specs.Room.{left_of}
 
 abbrev pub tree_of_kind : Tree → PlainKind → Option Tree
 tree_of_kind t derived = None
@@ -69,14 +67,11 @@ are_meant_among all entries = list_all (λ r. is_meant_if all (stored_tree r.1))
 abbrev pub are_stored_few : Entries → Bool
 are_stored_few entries = are_meant_among entries entries
 
--- what is left of a number without the rows of the stored views; none, where they are more, or one of them has too many
-abbrev pub room_among : ℕ → Entries → Entries → Option ℕ
-room_among most all entries = if are_meant_among all entries then left_of most (rows_among all entries) else None
+-- so many rows the entry has as a stored view
+pub record IsCounted (all : Entries) (count : ℕ) (r : PlainRelvar) : Type 0 where
+  pub is : count ≡ stored_rows all r
 
-abbrev pub room_beside : ℕ → Entries → Option ℕ
-room_beside most entries = if are_stored_few entries then left_of most (rows_of_stored entries) else None
-
--- ---- what it takes to make them
+-- ---- what it takes to make the rows of one
 
 -- how many rows the base relvar has that an expression names
 abbrev pub named_rows : Entries → Tree → ℕ
@@ -94,33 +89,3 @@ abbrev pub made_cost : Entries → Tree → ℕ
 made_cost all (using place h commalist t) = part_cost all (length commalist) t
 made_cost all (pack place h commalist t) = bound (named_rows all t) (length commalist)
 made_cost all _ = 0
-
-abbrev pub cost_if : Entries → Option Tree → ℕ
-cost_if all None = 0
-cost_if all (Some t) = made_cost all t
-
-abbrev pub cost_among : Entries → Entries → ℕ
-cost_among all [] = 0
-cost_among all (r ∷ rest) = cost_if all (stored_tree r.1) + cost_among all rest
-
-abbrev pub stored_cost : Entries → ℕ
-stored_cost entries = cost_among entries entries
-
--- ---- one entry
-
--- how many rows are meant; none for a fault
-abbrev pub count_told : RowsMeant → Option ℕ
-count_told (Ok rows) = Some (length rows)
-count_told (Err e) = None
-
-abbrev pub told_if : Entries → Option Tree → Option ℕ
-told_if all None = Some 0
-told_if all (Some t) = count_told (meaning_in all t)
-
--- so many rows the entry has as a stored view; none, if it has too many
-pub record IsTold (all : Entries) (told : Option ℕ) (r : PlainRelvar) : Type 0 where
-  pub is : told ≡ told_if all (stored_tree r)
-
--- the steps that its rows take
-pub record TakesSo (all : Entries) (old new : ℕ) (r : PlainRelvar) : Type 0 where
-  pub most : new ≤ old + cost_if all (stored_tree r)

@@ -1,12 +1,21 @@
-//! The stored views among the relvars of a state: the rule of each, its rows once base relvars have new values, and the room that these rows
-//! take.
+//! The stored views among the relvars of a state: the rule of each, its rows, brought up to date where base relvars get new values, and the
+//! room that all of them take.
 #![tactic(auto)]
 
 mod counting;
+mod exchanging;
+mod kinds;
+mod next;
 mod operands;
+mod places;
 mod rows;
 mod rules;
+mod touching;
 
-pub use counting::{has_stored, room_left};
-pub use rows::rows_after;
+pub use counting::room_beside;
+pub use exchanging::exchange_rows;
+pub use kinds::has_stored;
+pub use next::next_rows;
+pub use places::{forget_rows, put_rows};
+pub use rows::{rows_after, rows_now};
 pub use rules::rule_of;

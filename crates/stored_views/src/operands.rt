@@ -1,12 +1,14 @@
 // The operands of stored views, once base relvars have new values.
-ghost use Rattle.std.specs.Prelude.{◌≡◌, length, option_map, Some, IfSome};
+ghost use Rattle.std.specs.Prelude.{◌≡◌, option_map, Some, IfSome};
 ghost use Rattle.value_core.specs.Values.{IsRelation};
 ghost use Rattle.tree_core.specs.Relvars.{read_relvar, read_relvars, relvar_heading};
 ghost use Rattle.tree_core.specs.Trees.{read_tree};
 ghost use Rattle.meaning_core.specs.WellMade.{IsBase};
-ghost use Rattle.relvar_logs.specs.Changes.{changed, changed_relvar, newest, AreChanges, IsChange};
+ghost use Rattle.relvar_logs.specs.Changes.{changed, changed_relvar, newest, IsChange};
+ghost use Rattle.stored_views.specs.Moves.{AreFirstChanges};
 ghost use Rattle.stored_views.specs.Operands.{value_if, AreOperands, ArePartOperands, ArePartValues, AreValues, IsOperand, IsValue};
 
+use crate::places::there;
 use tree_core::{RelForm, RelTree, Relvar, Relvars};
 use value_core::Relation;
 
@@ -17,8 +19,7 @@ pub(crate) fn operands<'a>(
     tree: &RelTree,
 ) -> (&'a Relation, Option<&'a Relation>)
     requires operands { AreOperands (read_relvars relvars.now).relvars (read_tree tree.now) }
-    requires changes { AreChanges changes.now (read_relvars relvars.now).relvars }
-    requires length { length changes.now ≡ length relvars.now.list.entries }
+    requires changes { AreFirstChanges changes.now (read_relvars relvars.now).relvars }
     ensures values { AreValues (changed changes.now (read_relvars relvars.now).relvars) (read_tree tree.now) result.0.now (option_map (λ r. r.now) result.1) }
     ensures left { IsRelation result.0.now }
     ensures right { IfSome (option_map (λ r. r.now) result.1) (λ r. IsRelation r) }
@@ -37,8 +38,7 @@ fn part_operands<'a>(
     part: &RelTree,
 ) -> (&'a Relation, Option<&'a Relation>)
     requires operands { ArePartOperands (read_relvars relvars.now).relvars (read_tree part.now) }
-    requires changes { AreChanges changes.now (read_relvars relvars.now).relvars }
-    requires length { length changes.now ≡ length relvars.now.list.entries }
+    requires changes { AreFirstChanges changes.now (read_relvars relvars.now).relvars }
     ensures values { ArePartValues (changed changes.now (read_relvars relvars.now).relvars) (read_tree part.now) result.0.now (option_map (λ r. r.now) result.1) }
     ensures left { IsRelation result.0.now }
     ensures right { IfSome (option_map (λ r. r.now) result.1) (λ r. IsRelation r) }
@@ -61,8 +61,7 @@ fn newest_named<'a>(
     operand: &RelTree,
 ) -> &'a Relation
     requires operand { IsOperand (read_relvars relvars.now).relvars (read_tree operand.now) }
-    requires changes { AreChanges changes.now (read_relvars relvars.now).relvars }
-    requires length { length changes.now ≡ length relvars.now.list.entries }
+    requires changes { AreFirstChanges changes.now (read_relvars relvars.now).relvars }
     ensures value { IsValue (changed changes.now (read_relvars relvars.now).relvars) (read_tree operand.now) result.now }
     ensures relation { IsRelation result.now }
 {
@@ -70,16 +69,16 @@ fn newest_named<'a>(
         unreachable!()
     };
     match relvars.list.get_full(name) {
-        Some((at, _, relvar)) => newest(relvar, &changes[at]),
+        Some((at, _, relvar)) => newest(relvar, there(changes, at)),
         None => unreachable!(),
     }
 }
 
 // The new value of the base relvar, or its old one.
-fn newest<'a>(relvar: &'a Relvar, change: &'a Option<Relation>) -> &'a Relation
+fn newest<'a>(relvar: &'a Relvar, change: Option<&'a Relation>) -> &'a Relation
     requires base { IsBase (Some (read_relvar relvar.now)) }
-    requires change { IsChange change.now (read_relvar relvar.now) }
-    ensures value { value_if (Some (changed_relvar change.now (read_relvar relvar.now))) ≡ Some result.now }
+    requires change { IsChange (option_map (λ r. r.now) change) (read_relvar relvar.now) }
+    ensures value { value_if (Some (changed_relvar (option_map (λ r. r.now) change.entry) (read_relvar relvar.now))) ≡ Some result.now }
     ensures heading { result.now.heading ≡ relvar_heading (read_relvar relvar.now) }
     ensures relation { IsRelation result.now }
 {
@@ -94,8 +93,8 @@ fn newest<'a>(relvar: &'a Relvar, change: &'a Option<Relation>) -> &'a Relation
 }
 
 // The new value, or the old one where there is none.
-fn newer<'a>(change: &'a Option<Relation>, old: &'a Relation) -> &'a Relation
-    ensures value { result.now ≡ newest change.now old.now }
+fn newer<'a>(change: Option<&'a Relation>, old: &'a Relation) -> &'a Relation
+    ensures value { result.now ≡ newest (option_map (λ r. r.now) change.entry) old.now }
     ensures relation { IsRelation result.now }
 {
     match change {

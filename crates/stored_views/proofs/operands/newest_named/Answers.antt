@@ -26,7 +26,7 @@ newest-requires-clause-change c =
     let es = map read_entry raw in
     let r = read_relvar c.in-Some.relvar.now in
     let first = found_at raw c.in-Named.name c.in-Some.field-0-1.now c.in-Some.at c.in-Some.relvar.now (sym c.in-Some.ensures.index) c.in-Some.ensures.entry in
-    subst (λ (o : Option Relation). IsChange o r) (sym c.index-changes-at.is) (change_there es c.args.changes.now c.in-Named.name c.in-Some.at r c.index-changes-at.result c.requires.changes first).0
+    subst (λ (o : Option Relation). IsChange o r) (sym c.there.ensures) (change_there es c.args.changes.now c.in-Named.name c.in-Some.at r c.requires.changes first).0
 
 pub unreachable-requires-in-None : goal.unreachable-requires-in-None
 unreachable-requires-in-None c =
@@ -45,7 +45,7 @@ returns-clause-value c =
     let x = c.newest.result.now in
     let operand = subst (λ (f : RelForm). IsOperand es (read_form c.args.operand.now.place c.args.operand.now.heading f)) c.in-Named.is c.requires.operand in
     let first = found_at raw c.in-Named.name c.in-Some.field-0-1.now c.in-Some.at c.in-Some.relvar.now (sym c.in-Some.ensures.index) c.in-Some.ensures.entry in
-    let there = (change_there es c.args.changes.now c.in-Named.name c.in-Some.at r c.index-changes-at.result c.requires.changes first).1 in
-    let value = ap value_if there ∙ (ap (λ (o : Option Relation). value_if (Some (changed_relvar o r))) (sym c.index-changes-at.is) ∙ c.newest.ensures.value) in
+    let there = (change_there es c.args.changes.now c.in-Named.name c.in-Some.at r c.requires.changes first).1 in
+    let value = ap value_if there ∙ (ap (λ (o : Option Relation). value_if (Some (changed_relvar o r))) (sym c.there.ensures) ∙ c.newest.ensures.value) in
     let headed = c.newest.ensures.heading ∙ headed_there es c.in-Named.name c.in-Some.at r c.args.operand.now.heading first operand.1 in
     subst (λ (f : RelForm). IsValue all (read_form c.args.operand.now.place c.args.operand.now.heading f) x) (sym c.in-Named.is) (value, headed)

@@ -1,7 +1,7 @@
 use Rattle.std.proofs.Common.{◌≡◌, map}
 use Rattle.tree_core.specs.Relvars.{read_entry}
 use Rattle.stored_views.specs.Stored.{has_stored}
-use Rattle.stored_views.proofs.counting.has_stored.Given as goal
+use Rattle.stored_views.proofs.kinds.has_stored.Given as goal
 
 abbrev pub invariant-loop-relvar : goal.invariant-loop-relvar
 invariant-loop-relvar l =
