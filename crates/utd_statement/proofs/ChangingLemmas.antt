@@ -9,7 +9,7 @@ use Rattle.tree_core.specs.Items.{PlainAssignment}
 use Rattle.tree_core.specs.Relvars.{Entries, State}
 use Rattle.meaning_core.specs.Declarations.{counted}
 use Rattle.assign_core.specs.Assignments.{assigned_in, IsAssigned, IsDone, IsRefusedFor}
-use Rattle.assign_core.specs.Logs.{opened}
+use Rattle.assign_core.specs.Room.{opened}
 use Rattle.utd_statement.specs.Answers.{if_allowed, unless_refused}
 use Rattle.utd_statement.specs.Replies.{IsPerformed, IsRefusedWith}
 

@@ -13,15 +13,13 @@ use Rattle.point_core.specs.Faults.{OrFault}
 use Rattle.value_core.specs.declared.refuse.Refuse.{Refuse}
 use Rattle.value_core.specs.declared.refuse.Refuse.TheVariants.{Broken, Plain as PlainRefusal}
 use Rattle.value_core.specs.Values.{Name}
-use Rattle.tree_core.specs.declared.declaration.LogData.{LogData}
 use Rattle.tree_core.specs.Relvars.{Entries, State}
 use Rattle.tree_core.specs.Trees.{Test}
 use Rattle.meaning_core.specs.Declarations.{PlainDeclaration, ordinal_type, base_relvar, view_relvar, counted, with_declaration, with_log, with_rule}
-use Rattle.meaning_core.specs.Logs.{turned_logs}
 use Rattle.meaning_core.specs.Truths.{holds_in, truth_in}
 use Rattle.assign_core.specs.Assignments.{assigned_in, constrained}
 use Rattle.assign_core.specs.Items.{assignments_of}
-use Rattle.assign_core.specs.Logs.{have_room}
+use Rattle.assign_core.specs.Room.{have_room, if_room}
 use Rattle.since_during.specs.Histories.{declared_history, declared_in}
 use Rattle.utd_syntax.specs.Plain.{StatementP}
 use Rattle.type_check.specs.Checks.{Plain, nothing, declare_ordinal, declare_base, declare_view, declare_history, declare_log, remove, declare_rule, remove_rule, assign, print, ask, checked}
@@ -59,9 +57,12 @@ module _ (s : State) where
       by true = refl
       by false = refl
 
-  opened-count : (d : LogData) (b : Bool) → (made_by s (if_allowed (if b then Ok (with_log s d) else Err (PlainRefusal E46)))).accepted ≡ s.accepted
-  opened-count d true = refl
-  opened-count d false = refl
+  room-count : (new : State) → new.accepted ≡ s.accepted → (made_by s (if_allowed (if_room new))).accepted ≡ s.accepted
+  room-count new same = by (have_room new.relvars)
+    where
+      by : (b : Bool) → (made_by s (if_allowed (if b then Ok new else Err (PlainRefusal E46)))).accepted ≡ s.accepted
+      by true = same
+      by false = refl
 
   refused-count : (r : Result Entries Refuse) → (made_by s (unless_refused s r)).accepted ≡ s.accepted
   refused-count (Ok entries) = refl
@@ -77,7 +78,7 @@ module _ (s : State) where
   checked-count (declare_base d) = declared-count s d
   checked-count (declare_view d) = declared-count s d
   checked-count (declare_history h) = list-count (declared_history h) s
-  checked-count (declare_log d) = opened-count d (have_room (turned_logs (with_log s d).relvars))
+  checked-count (declare_log d) = room-count (with_log s d) refl
   checked-count (remove name) = refl
   checked-count (declare_rule name t) = allowed-count name t
   checked-count (remove_rule name) = refl

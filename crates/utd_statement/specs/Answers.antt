@@ -17,7 +17,7 @@ use Rattle.meaning_core.specs.Meanings.{meaning_in}
 use Rattle.meaning_core.specs.Truths.{truth_in}
 use Rattle.assign_core.specs.Assignments.{assigned_in, constrained}
 use Rattle.assign_core.specs.Items.{assignments_of}
-use Rattle.assign_core.specs.Logs.{opened}
+use Rattle.assign_core.specs.Room.{opened}
 use Rattle.since_during.specs.Histories.{declared_history, declared_in}
 use Rattle.utd_syntax.specs.Plain.{StatementP}
 use Rattle.type_check.specs.Checks.{Plain, nothing, declare_ordinal, declare_base, declare_view, declare_history, declare_log, remove, declare_rule, remove_rule, assign, print, ask, checked}

@@ -14,7 +14,7 @@ ghost use Rattle.assign_core.specs.Assignments.{assigned_in, constrained};
 ghost use Rattle.assign_core.specs.Costs.{cost_of_assignments};
 ghost use Rattle.assign_core.specs.Databases.{IsKept};
 ghost use Rattle.assign_core.specs.Items.{assignments_of};
-ghost use Rattle.assign_core.specs.Logs.{opened};
+ghost use Rattle.assign_core.specs.Room.{opened};
 ghost use Rattle.utd_statement.specs.Answers.{Changed, if_allowed, unless_refused};
 ghost use Rattle.utd_statement.specs.Replies.{IsMade, IsPerformed};
 
