@@ -13,7 +13,7 @@ ghost use Rattle.utd_statement.specs.Costs.{cost_of_checked, cost_of_tree};
 ghost use Rattle.utd_statement.specs.Replies.{IsMade, IsPerformed};
 
 use crate::changing::{
-    assigned, constrained, declared, history_declared, opened, removed, unconstrained,
+    assigned, constrained, declared, history_declared, kept, opened, removed, unconstrained,
 };
 use algebra_core::{eval, test};
 use assign_core::Database;
@@ -92,6 +92,7 @@ fn performed_typed<L: Ledger>(
     match typed {
         Checked::Assign(items) => assigned(alloc, &items, database, steps),
         Checked::Log(data) => opened(alloc, data, database),
+        Checked::Kept(name, tree) => kept(alloc, name, tree, database, steps),
         Checked::Nothing => {
             let made = Ok(Vec::new(alloc));
             counted(database, made)
