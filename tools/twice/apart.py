@@ -44,8 +44,16 @@ APART = {
     **{frozenset({('crates/relvar_logs/proofs/NextLemmas.antt', lower), (f'crates/assign_core/proofs/{upper[0]}.antt', upper[1])}):
        'the upper one goes when assign_core is next opened'
        for lower, upper in (('turned-name', ('NameLemmas', 'turned')), ('change_first', ('TouchLemmas', 'found_change')), ('change_none', ('TouchLemmas', 'absent_change')))},
-    frozenset({('crates/relvar_logs/proofs/OpeningLemmas.antt', 'distinct-later'), ('crates/assign_core/proofs/NameLemmas.antt', 'distinct_later')}):
-        'the crate below keeps it to itself; the upper one goes when relvar_logs is next opened',
+    frozenset({('crates/relvar_logs/proofs/OpeningLemmas.antt', 'distinct-later'), ('crates/assign_core/proofs/NameLemmas.antt', 'distinct_later'),
+               ('crates/stored_views/proofs/WithoutLemmas.antt', 'distinct_behind')}):
+        'the crate below keeps it to itself; the upper ones go when relvar_logs is next opened',
+    **{frozenset({(f'crates/stored_views/proofs/{lower[0]}.antt', lower[1]), (f'crates/assign_core/proofs/{upper[0]}.antt', upper[1])}):
+       'the upper one goes when assign_core is next opened'
+       for lower, upper in ((('TouchLemmas', 'no-change'), ('DifferenceLemmas', 'nothing')), (('WithoutLemmas', 'none_left'), ('StepLemmas', 'left-none')))},
+    frozenset({('crates/algebra_core/proofs/StoredLemmas.antt', 'or_none'), ('crates/typing_laws/proofs/SaidNames.antt', 'or-nothing')}):
+        'neither stands on the other; its place is base_core, on which all others stand',
+    frozenset({('crates/stored_views/proofs/TouchLemmas.antt', 'neither'), ('crates/meaning_laws/proofs/EachAlike.antt', 'names-or')}):
+        'neither stands on the other; its place is meaning_core, on which nearly all others stand',
     frozenset({('crates/declaration_typing/proofs/LogLaws.antt', 'base-declared'), ('crates/update_core/proofs/NameLemmas.antt', 'base-declared')}):
         'neither stands on the other; its place is meaning_core, on which nearly all others stand',
     frozenset({('crates/meaning_core/proofs/ElsewhereLemmas.antt', 'each-append'), ('crates/meaning_laws/proofs/EntriesFound.antt', 'each-append')}):

@@ -4,7 +4,7 @@
 use Rattle.std.proofs.Common.{◌≡◌, ◌+◌, ◌≤◌, Bool, true, false, nat_le, cond, List, [], ◌∷◌, ◌++◌, map, inl, inr, refl, sym, ap, ◌∙◌, subst, append_assoc, append-nil, Ok, Err, arith}
 use Rattle.std.specs.Prelude.{◌&&◌}
 use Rattle.std.specs.List.{filter, flat_map}
-use Rattle.std.proofs.lemmas.Bool.{true≢false, or_parts, le-leb}
+use Rattle.std.proofs.lemmas.Bool.{true≢false, le-leb}
 use Rattle.std.proofs.lemmas.List.Concat.{flat_map-append}
 use Rattle.std.proofs.lemmas.List.Elements.{filter-append}
 use Rattle.base_core.proofs.MemberLemmas.{In-append, In-flat_map, list_all-In}
@@ -13,20 +13,21 @@ use Rattle.point_core.specs.declared.fault.Code.TheVariants.{E46}
 use Rattle.point_core.specs.declared.fault.Place.{Place}
 use Rattle.value_core.specs.declared.refuse.Refuse.TheVariants.{Plain}
 use Rattle.value_core.specs.Limits.{most_rows_in_all}
-use Rattle.value_core.specs.Values.{Name, Row, most_rows}
+use Rattle.value_core.specs.Values.{Name, Row}
 use Rattle.tree_core.specs.Relvars.{State, PlainKind, derived, of_history, stored, PlainRelvar, base, view, log, Entries}
 use Rattle.tree_core.specs.Trees.{Tree}
 use Rattle.tree_core.specs.Uses.{names_any}
-use Rattle.meaning_core.specs.Logs.{is_log, has_log, turned_logs}
+use Rattle.meaning_core.specs.Logs.{has_log, turned_logs}
 use Rattle.meaning_core.specs.Meanings.{RowsMeant, meaning_in}
 use Rattle.meaning_core.specs.WellMade.{sizes_of, IsWellMade}
 use Rattle.meaning_laws.specs.Likeness.{IsLike, Alike}
 use Rattle.meaning_laws.specs.Moved.{moved_tree}
 use Rattle.meaning_laws.proofs.MeaningAlike.{meaning-alike}
-use Rattle.relvar_logs.specs.Room.{log_count, rows_of_logs, are_each_few}
+use Rattle.relvar_logs.specs.Room.{rows_of_logs, are_each_few}
 use Rattle.stored_views.specs.Stored.{is_stored, stored_tree, count_meant, is_meant, is_meant_if, stored_rows, rows_among, rows_of_stored, are_meant_among, are_stored_few}
 use Rattle.assign_core.specs.Breaches.{rows_of_all}
 use Rattle.assign_core.specs.Room.{have_room, with_stored, stored_if, stored_in, HasStoredRoom}
+use Rattle.assign_core.proofs.LogLemmas.{no-rows}
 use Rattle.assign_core.proofs.NameLemmas.{relvars_differ}
 use Rattle.typing_laws.specs.Saying.{Said, said_stored, moved_said, entries_said, with_said}
 use Rattle.typing_laws.proofs.SaidLaws.{with-stored}
@@ -51,20 +52,6 @@ bases-rows [] = refl
 bases-rows ((name, base value constraints) ∷ es) = let more = bases-rows es in omega (arith, more)
 bases-rows ((name, view t kind) ∷ es) = let more = bases-rows es in omega (arith, more)
 bases-rows ((name, log of side last value) ∷ es) = let more = bases-rows es in omega (arith, more)
-
--- without logs there are no rows of logs
-no-log-rows : (es : Entries) → has_log es ≡ false → (rows_of_logs es ≡ 0) × (are_each_few es ≡ true)
-no-log-rows [] none = (refl, refl)
-no-log-rows (e ∷ es) none =
-    let parts = or_parts (is_log e.1) (has_log es) none in
-    let more = no-log-rows es parts.1 in
-    let one = by e.1 parts.0 in
-    (let here = one.0 in let there = more.0 in omega (arith, here, there), λ i. one.1 i && more.1 i)
-  where
-    by : (r : PlainRelvar) → is_log r ≡ false → (log_count r ≡ 0) × (nat_le (log_count r) most_rows ≡ true)
-    by (base value constraints) q = (refl, refl)
-    by (view t kind) q = (refl, refl)
-    by (log of side last value) q = absurd (true≢false q)
 
 -- stored views stand among the views that no history has
 late-rows : (all es : Entries) → rows_among all (filter is_late es) ≡ rows_among all es
@@ -187,7 +174,7 @@ module _ (w : State) (ds : List Said) (made : IsMadeOf w ds) (well : IsWellMade 
 
     pub room-here : have_room s.relvars ≡ true
     room-here =
-        let logs = no-log-rows s.relvars (stands-logless done s h.stands) in
+        let logs = no-rows s.relvars (stands-logless done s h.stands) in
         let turned : turned_logs s.relvars ≡ s.relvars = stands-unturned done s h.stands in
         let none_of_logs : rows_of_logs (turned_logs s.relvars) ≡ 0 = ap rows_of_logs turned ∙ logs.0 in
         let bases : rows_of_all s.relvars ≡ rows_of_all w.relvars = sym (bases-rows s.relvars) ∙ (ap rows_of_all h.bases ∙ bases-rows w.relvars) in
