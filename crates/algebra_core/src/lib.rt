@@ -7,7 +7,6 @@ mod literal;
 mod operand;
 mod operators;
 mod scope;
-mod stored;
 mod summary;
 mod surrounded;
 mod surrounding;

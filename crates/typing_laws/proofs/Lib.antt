@@ -8,7 +8,6 @@ mod SweepsElsewhere
 mod NodesElsewhere
 mod UsingsElsewhere
 pub mod TreesElsewhere
-mod KeptElsewhere
 pub mod SaysElsewhere
 pub mod SaysMore
 pub mod SaidLaws
