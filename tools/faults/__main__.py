@@ -1,8 +1,8 @@
 """Refuses each allocation, read and write of the program in turn: python3 tools/faults [--program FILE] [SCRIPT..]
 
-The program is crates/utd/out/utd, or the one that is named. Without scripts it takes those of crates/utd_rows/data/faults and logs.txt beside this file,
-with --dump too, all of examples/ and the generated one of 100. Each runs once for each allocation, read and write that it makes, which is refused: alone, and
-with all of its kind from there on. A read and a write move at most 100 bytes.
+The program is crates/utd/out/utd, or the one that is named. Without scripts it takes those of crates/utd_rows/data/faults and those beside this file, with
+--dump too, all of examples/ and the generated one of 100. Each runs once for each allocation, read and write that it makes, which is refused: alone, and with
+all of its kind from there on. A read and a write move at most 100 bytes.
 
 An answer is right where
   a refused allocation gives status 5 and what some of the first statements write, or the whole answer,

@@ -37,7 +37,8 @@ def dumped(script):
 
 
 def all_scripts(root):
-    found = [by_statements(path) for path in [*sorted(glob.glob(f'{root}/crates/utd_rows/data/faults/*.txt')), f'{root}/tools/faults/logs.txt']]
+    folders = (f'{root}/crates/utd_rows/data/faults', f'{root}/tools/faults')
+    found = [by_statements(path) for folder in folders for path in sorted(glob.glob(f'{folder}/*.txt'))]
     found += [dumped(script) for script in found]
     found += [of_file(path) for path in sorted(glob.glob(f'{root}/examples/*.td'))]
     return [*found, Script('--generate 100', words=('--generate', '100'))]

@@ -131,11 +131,11 @@ def declare_log(names, name, relvar, attribute):
 
 
 def declare_relvar(names, name, form):
-    if form[0] == 'Kept':
-        raise Refusal('E01', 'a kept view is read, and not yet kept')
     names.free(name)
     if form[0] == 'View':
         return declare_view(names, name, form[1])
+    if form[0] == 'Kept':
+        return declare_kept(names, name, *form[1])
     _, heading, trees = form
     heading = heading_of(heading, names.types)
     constraints = [part for number, tree in enumerate(trees, 1) for part in constraint_of(tree, number)]
@@ -148,6 +148,34 @@ def declare_view(names, name, tree, history=None):
     relation = relation_of(tree, names)
     names.views[name] = View(relation.heading, tree, relation.packed, relation.keys, history)
     return f'CREATE VIEW {quoted(name)} AS\n{relation.sql};'
+
+
+def kept_infix(attributes, left, word, right):
+    return ('Using', attributes, ('UsingInfix', ('Relvar', left), word, ('Relvar', right)))
+
+
+def kept_not_matching(attributes, left, right):
+    return ('Using', attributes, ('UsingNotMatching', ('Relvar', left), ('Relvar', right)))
+
+
+def kept_project(attributes, operand, projection):
+    return ('Using', attributes, ('UsingProject', ('Relvar', operand), projection))
+
+
+def kept_pack(operand, attributes):
+    return ('PackOn', 'Pack', ('Relvar', operand), attributes)
+
+
+# the expression that a kept view stands for
+KEPT = {'KeptInfix': kept_infix, 'KeptNotMatching': kept_not_matching, 'KeptProject': kept_project, 'KeptPack': kept_pack}
+
+
+def declare_kept(names, name, form, *parts):
+    """A view, whose rows the program stores: PostgreSQL brings no stored rows up to date."""
+    tree = KEPT[form](*parts)
+    for operand in operands_of(tree):
+        names.base_heading(operand)
+    return declare_view(names, name, tree)
 
 
 def ended(history, rows, end):
@@ -177,13 +205,16 @@ def declare_history(names, name, heading, key, since, at, during, interval_name,
     return '\n'.join([runs, ran, declare_view(names, name, ended(history, ('Relvar', since), ('Extreme', 'Last', over_points)), history)])
 
 
+def operands_of(tree):
+    """The names of relvars and views in an expression, as they stand in it from left to right."""
+    if isinstance(tree, tuple) and tree[:1] == ('Relvar',):
+        return [tree[1]]
+    return [name for part in tree for name in operands_of(part)] if isinstance(tree, (tuple, list)) else []
+
+
 def relvars_in(tree):
     """The names of relvars and views in an expression."""
-    if isinstance(tree, list):
-        return {name for part in tree for name in relvars_in(part)}
-    if not isinstance(tree, tuple):
-        return set()
-    return {tree[1]} if tree[0] == 'Relvar' else {name for part in tree for name in relvars_in(part)}
+    return {*operands_of(tree)}
 
 
 def group_of(names, name):

@@ -24,6 +24,7 @@ TABLES = {
     'using_part': USING,
     'item': statements.ITEMS,
     'statement': statements.STATEMENTS,
+    'kept': statements.KEPT,
 }
 
 START = '''
@@ -80,7 +81,22 @@ CASES = [
     ('HISTORY H {K INTEGER} KEY {K} SINCE B (P) DURING E (I) OVER DATE; LOG L OF E (N); DROP VAR H;', 'E21'),
     ('LOG := R;', 'E10'),
     ('VAR LOG RELATION {A INTEGER} KEY {A}; LOG := RELATION {TUPLE {A 1}};', 'INSERT INTO "LOG" ("A")'),
-    ('VAR V KEPT (PACK R ON (D));', 'E01'),
+    ('VAR V KEPT (PACK R ON (D));', 'CREATE VIEW "V" AS\nSELECT "D", "K", "T" FROM "R";'),
+    ('VAR V KEPT (USING (D): S {K, D});', 'unnest(range_agg("D")) AS "D"'),
+    ('VAR V KEPT (USING (D): S JOIN R); PRINT V;', 'FROM "V" t\nORDER BY'),
+    ('VAR V KEPT (USING (D): S NOT MATCHING R); S := S MINUS S, S := (V JOIN S) {K, D, Z};', 'FROM "the new value 1"'),
+    ('VAR V KEPT (PACK V ON (D));', 'E10'),
+    ('VAR V KEPT (PACK S ON (D)); VAR W KEPT (PACK V ON (D));', 'E20'),
+    ('VAR V VIRTUAL (S); VAR W KEPT (USING (A): V MINUS Q);', 'E20'),
+    ('LOG L OF R (N); VAR V KEPT (USING (A): Q MINUS L);', 'E10'),
+    ('LOG L OF R (N); VAR V KEPT (USING (A): L {A});', 'E20'),
+    ('VAR S KEPT (PACK Q ON (D));', 'E11'),
+    ('VAR V KEPT (USING (D): R MINUS S);', 'E13'),
+    ('VAR V KEPT (USING (D): S {K});', 'E19'),
+    ('VAR V KEPT (PACK S ON (D)); DROP VAR S;', 'E21'),
+    ('VAR V KEPT (PACK S ON (D)); DROP VAR V; DROP VAR S;', 'DROP TABLE "S";'),
+    ('VAR V KEPT (PACK S ON (D)); INSERT V S;', 'E20'),
+    ('VAR V KEPT (PACK (S) ON (D));', 'E01'),
     ('VAR xmin RELATION {xmin INTEGER};', 'SQL'),
 ]
 

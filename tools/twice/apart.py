@@ -50,6 +50,8 @@ APART = {
     **{frozenset({(f'crates/stored_views/proofs/{lower[0]}.antt', lower[1]), (f'crates/assign_core/proofs/{upper[0]}.antt', upper[1])}):
        'the upper one goes when assign_core is next opened'
        for lower, upper in ((('TouchLemmas', 'no-change'), ('DifferenceLemmas', 'nothing')), (('WithoutLemmas', 'none_left'), ('StepLemmas', 'left-none')))},
+    frozenset({('crates/algebra_core/proofs/StoredLemmas.antt', 'or_none'), ('crates/typing_laws/proofs/SaidNames.antt', 'or-nothing')}):
+        'neither stands on the other; its place is base_core, on which all others stand',
     frozenset({('crates/stored_views/proofs/TouchLemmas.antt', 'neither'), ('crates/meaning_laws/proofs/EachAlike.antt', 'names-or')}):
         'neither stands on the other; its place is meaning_core, on which nearly all others stand',
     frozenset({('crates/declaration_typing/proofs/LogLaws.antt', 'base-declared'), ('crates/update_core/proofs/NameLemmas.antt', 'base-declared')}):

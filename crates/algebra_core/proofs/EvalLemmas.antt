@@ -15,8 +15,9 @@ use Rattle.tree_core.specs.Trees.{Tree, named}
 use Rattle.tree_core.specs.declared.relvar.Relvar.{Relvar}
 use Rattle.meaning_core.specs.Meanings.{RowsMeant, Known, at_name, limited, relvar_meaning, known_in}
 use Rattle.meaning_core.specs.Names.{found, given, given_relvar, given_entry, IsFirstAt}
-use Rattle.algebra_core.specs.Costs.{prices_in}
-use Rattle.algebra_core.specs.Scopes.{CanEvaluate, CanLookUp, state_of, all_of, with_of, value_of, known_at, prices_at, stored_meaning, stored_work, work, up_to, current}
+use Rattle.algebra_core.specs.Costs.{prices_with}
+use Rattle.algebra_core.specs.Scopes.{CanEvaluate, CanLookUp, state_of, all_of, with_of, value_of, known_at, prices_at, entry_meaning, entry_work, work, up_to, current}
+use Rattle.meaning_core.specs.StoredRows.{AreStored}
 use Rattle.meaning_core.specs.Typing.{heading_named, IsTypedTree}
 use Rattle.meaning_core.specs.WellMade.{sizes_of, headings_of, IsGiven, IsWellMade, IsTypedFor}
 use Rattle.algebra_core.specs.declared.scope.Scope.{Scope}
@@ -34,22 +35,23 @@ module _ (s : Scope) (place : Place) (h : Heading) (name : Name) (at : ℕ) (x :
   can_look_up = record {
     relvars = can.relvars;
     given = can.given;
+    stored = can.stored;
     first = first;
   }
 
-  pub work_falls : stored_work s at x < work s (named place h name)
+  pub work_falls : entry_work s at x < work s (named place h name)
   work_falls = let w = weight_first (all_of s) name at s.before x first stands_before.0 in omega (arith, w)
 
-  meant : found (Ok []) (known_at s) name ≡ stored_meaning s name at x
+  meant : found (Ok []) (known_at s) name ≡ entry_meaning s name at x
   meant =
       found_first relvar_meaning (Ok []) (given (with_of s) (value_of s) (all_of s)) name at s.before (given_relvar (with_of s) (value_of s) name x)
       (given_first (with_of s) (value_of s) (all_of s) name at x first) stands_before.0
 
-  pub named_meant : (result : Result Relation Stop) → Answers result (under (relvar_heading x) (then_give (at_name place (stored_meaning s name at x)) (limited place)))
+  pub named_meant : (result : Result Relation Stop) → Answers result (under (relvar_heading x) (then_give (at_name place (entry_meaning s name at x)) (limited place)))
       → Answers result (under h (then_give (at_name place (found (Ok []) (known_at s) name)) (limited place)))
   named_meant result told =
       subst (λ (z : RowsMeant). Answers result (under h (then_give (at_name place z) (limited place)))) (sym meant)
-      (subst (λ (z : Heading). Answers result (under z (then_give (at_name place (stored_meaning s name at x)) (limited place)))) stands_before.1 told)
+      (subst (λ (z : Heading). Answers result (under z (then_give (at_name place (entry_meaning s name at x)) (limited place)))) stands_before.1 told)
 
 -- ---- what an entry is
 
@@ -57,6 +59,7 @@ pub view_can : (s : Scope) (name : Name) (at : ℕ) (t : Tree) (kind : PlainKind
 view_can s name at t kind can = record {
   relvars = can.relvars;
   given = can.given;
+  stored = can.stored;
   typed = (relvar_first (sizes_of (state_of s).ordinals) (all_of s) name at (view t kind) can.relvars can.first).1.0;
 }
 
@@ -74,7 +77,7 @@ base_by entries known (Some with) (Some value) name old constraints h e = by_tes
         rw q (ap (λ (g : Heading). Ok (with_rows g value.rows)) (sym same))
 
 pub base_meant : (s : Scope) (name : Name) (at : ℕ) (old : Relation) (constraints : List Constraint) → CanLookUp s name at (base old constraints)
-    → under old.heading (stored_meaning s name at (base old constraints)) ≡ Ok (current (with_of s) (value_of s) name old)
+    → under old.heading (entry_meaning s name at (base old constraints)) ≡ Ok (current (with_of s) (value_of s) name old)
 base_meant s name at old constraints can =
     base_by (all_of s) (known_at (up_to s at)) (with_of s) (value_of s) name old constraints can.given (named_first (all_of s) name at (base old constraints) can.first)
 
@@ -101,10 +104,12 @@ module _ (s : Scope) (whole : length (all_of s) ≤ s.before) where
   all_first : take s.before (all_of s) ≡ all_of s
   all_first = take_all s.before (all_of s) whole
 
-  pub whole_can : (t : Tree) → IsWellMade (state_of s) → IsTypedFor (state_of s) t → IsGiven (all_of s) (with_of s) (value_of s) → CanEvaluate s t
-  whole_can t made typed given = record {
+  pub whole_can : (t : Tree) → IsWellMade (state_of s) → IsTypedFor (state_of s) t → IsGiven (all_of s) (with_of s) (value_of s) → AreStored (all_of s) s.stored.now
+      → CanEvaluate s t
+  whole_can t made typed given stored = record {
     relvars = made.relvars;
     given = given;
+    stored = stored;
     typed = subst (λ (es : Entries). IsTypedTree (sizes_of (state_of s).ordinals) (headings_of es) t) (sym all_first) typed;
   }
 
@@ -112,6 +117,6 @@ module _ (s : Scope) (whole : length (all_of s) ≤ s.before) where
   whole_known =
       ap known_in (take_all s.before (given (with_of s) (value_of s) (all_of s)) (omega (arith, length-map (all_of s) (given_entry (with_of s) (value_of s)))))
 
-  pub whole_prices : prices_at s ≡ prices_in (given (with_of s) (value_of s) (all_of s))
+  pub whole_prices : prices_at s ≡ prices_with (with_of s) (given (with_of s) (value_of s) (all_of s))
   whole_prices =
-      ap prices_in (take_all s.before (given (with_of s) (value_of s) (all_of s)) (omega (arith, length-map (all_of s) (given_entry (with_of s) (value_of s)))))
+      ap (prices_with (with_of s)) (take_all s.before (given (with_of s) (value_of s) (all_of s)) (omega (arith, length-map (all_of s) (given_entry (with_of s) (value_of s)))))

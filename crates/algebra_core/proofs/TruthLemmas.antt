@@ -3,7 +3,7 @@ use Rattle.std.proofs.Common.{◌≡◌, ◌≤◌, length, ap, ◌∙◌, Optio
 use Rattle.value_core.specs.Values.{Name}
 use Rattle.meaning_core.specs.Meanings.{known_in}
 use Rattle.meaning_core.specs.Names.{given}
-use Rattle.algebra_core.specs.Costs.{prices_in}
+use Rattle.algebra_core.specs.Costs.{prices_in, prices_with}
 use Rattle.algebra_core.specs.Scopes.{all_of, with_of, value_of, known_at, prices_at}
 use Rattle.algebra_core.specs.declared.scope.Scope.{Scope}
 use Rattle.meaning_core.proofs.LookupLemmas.{given_none}
@@ -15,4 +15,5 @@ known_whole s none whole =
 
 pub prices_whole : (s : Scope) → with_of s ≡ None → length (all_of s) ≤ s.before → prices_at s ≡ prices_in (all_of s)
 prices_whole s none whole =
-    whole_prices s whole ∙ ap prices_in (ap (λ (w : Option Name). given w (value_of s) (all_of s)) none ∙ given_none (value_of s) (all_of s))
+    whole_prices s whole
+    ∙ (ap (λ (w : Option Name). prices_with w (given w (value_of s) (all_of s))) none ∙ ap prices_in (given_none (value_of s) (all_of s)))

@@ -1,11 +1,15 @@
 -- How many steps an expression or a test may take: a bound by numbers of rows and not of points.
 --     tree_cost      of an expression, where names mean that and cost that
---     cost_in, test_cost      in a state
-use Rattle.std.specs.Prelude.{ℕ, ◌+◌, List, [], ◌∷◌, map, length, Option, Some, None, Ok, Err}
+--     is_renewed      whether an expression names the relvar that has another value
+--     cost_with      in a state in which this relvar has it
+--     cost_in, test_cost      in a state in which none has
+use Rattle.std.specs.Prelude.{ℕ, ◌+◌, Bool, false, List, [], ◌∷◌, map, length, Option, Some, None, Ok, Err, if◌then◌else◌}
+use Rattle.std.specs.Str.{bytes_eq}
 use Rattle.value_core.specs.Values.{Name, Heading, Row}
 use Rattle.scalar_core.specs.Expressions.{Expr}
-use Rattle.tree_core.specs.Relvars.{PlainRelvar, base, view, Entries, log}
+use Rattle.tree_core.specs.Relvars.{PlainKind, derived, of_history, stored, PlainRelvar, base, view, Entries, log}
 use Rattle.tree_core.specs.Trees.{Tree, named, literal, infix_of, project, rename, restrict, extend, summarize, pack, unpack, using, heading_of, Test, relate, is_empty, is_not_empty}
+use Rattle.tree_core.specs.Uses.{names_any}
 use Rattle.cell_core.specs.Costs.{bound}
 use Rattle.meaning_core.specs.Meanings.{Known, RowsMeant, Around, plainly, in_using, positions_of, names_at, meaning, relvar_meaning}
 use Rattle.meaning_core.specs.Names.{found, each_in}
@@ -63,20 +67,40 @@ tree_cost prices around (using place heading commalist t) = tree_cost prices (in
 
 -- ---- in a state
 
--- what a relvar's name means and takes: the value of a base relvar or a log stands there
-abbrev pub relvar_cost : Prices → PlainRelvar → ℕ
-relvar_cost prices (base value constraints) = 0
-relvar_cost prices (view t kind) = tree_cost prices plainly t
-relvar_cost prices (log of side last value) = 0
+-- whether the expression names the relvar that has another value than when the rows of stored views were made
+abbrev pub is_renewed : Option Name → Tree → Bool
+is_renewed None t = false
+is_renewed (Some with) t = names_any (λ name. bytes_eq name with) t
 
-abbrev pub priced : Prices → PlainRelvar → Priced
-priced prices r = (relvar_meaning (known_of prices) r, relvar_cost prices r)
+-- what a view takes: one whose rows are stored is evaluated only where it names that relvar
+abbrev pub view_cost : Option Name → Prices → Tree → PlainKind → ℕ
+view_cost with prices t derived = tree_cost prices plainly t
+view_cost with prices t (of_history names) = tree_cost prices plainly t
+view_cost with prices t stored = if is_renewed with t then tree_cost prices plainly t else 0
 
+-- what a relvar's name takes: the value of a base relvar or a log stands there
+abbrev pub relvar_cost : Option Name → Prices → PlainRelvar → ℕ
+relvar_cost with prices (base value constraints) = 0
+relvar_cost with prices (view t kind) = view_cost with prices t kind
+relvar_cost with prices (log of side last value) = 0
+
+-- what it means, and what it takes
+abbrev pub priced : Option Name → Prices → PlainRelvar → Priced
+priced with prices r = (relvar_meaning (known_of prices) r, relvar_cost with prices r)
+
+-- in a state in which the named relvar has another value
+abbrev pub prices_with : Option Name → Entries → Prices
+prices_with with entries = each_in (priced with) entries
+
+abbrev pub cost_with : Option Name → Entries → Tree → ℕ
+cost_with with entries t = tree_cost (prices_with with entries) plainly t
+
+-- and in one in which none has
 abbrev pub prices_in : Entries → Prices
-prices_in entries = each_in priced entries
+prices_in entries = prices_with None entries
 
 abbrev pub cost_in : Entries → Tree → ℕ
-cost_in entries t = tree_cost (prices_in entries) plainly t
+cost_in entries t = cost_with None entries t
 
 -- ---- tests
 

@@ -7,7 +7,8 @@ ghost use Rattle.tree_core.specs.Relvars.{read_relvars};
 ghost use Rattle.tree_core.specs.Trees.{read_tree, read_test, heading_of, relate};
 ghost use Rattle.meaning_core.specs.Meanings.{meaning, meaning_in, plainly};
 ghost use Rattle.meaning_core.specs.Names.{given};
-ghost use Rattle.algebra_core.specs.Costs.{comparison_cost, cost_in, cost_of_test, test_cost, tree_cost};
+ghost use Rattle.meaning_core.specs.StoredRows.{AreStored};
+ghost use Rattle.algebra_core.specs.Costs.{comparison_cost, cost_of_test, cost_with, test_cost, tree_cost};
 ghost use Rattle.algebra_core.specs.Scopes.{CanEvaluate, known_at, prices_at};
 ghost use Rattle.meaning_core.specs.Truths.{compared_rows, no_rows, related_rows, truth_in, truth_of, within};
 ghost use Rattle.meaning_core.specs.Typing.{IsListIf};
@@ -24,11 +25,13 @@ use tree_core::{RelTest, RelTree, RelateWord, Relvars, TestForm};
 use value_core::{Name, Positions, Relation};
 
 /// The relation of an expression where these are the relvars and views, or its first fault. Where a base relvar and a value are
-/// given, this value stands for the relvar's, in views too.
+/// given, this value stands for the relvar's, in views too. A stored view's rows are read from the place of its entry, unless it names that
+/// relvar.
 pub fn eval<L: Ledger>(
     alloc: Global,
     tree: &RelTree,
     relvars: &Relvars,
+    stored: &[Option<Relation>],
     with: Option<&Name>,
     value: Option<&Relation>,
     steps: &mut Steps<L>,
@@ -36,13 +39,15 @@ pub fn eval<L: Ledger>(
     requires well_made { IsWellMade (read_relvars relvars.now) }
     requires typed { IsTypedFor (read_relvars relvars.now) (read_tree tree.now) }
     requires given { IsGiven (read_relvars relvars.now).relvars (option_map (λ n. n.now) with) (option_map (λ v. v.now) value) }
+    requires stored { AreStored (read_relvars relvars.now).relvars stored.now }
     ensures value { Answers result (under tree.now.heading
         (meaning_in (given (option_map (λ n. n.now) with.entry) (option_map (λ v. v.now) value.entry) (read_relvars relvars.now).relvars) (read_tree tree.now))) }
-    ensures cost { steps.new ≤ steps.old + cost_in
+    ensures cost { steps.new ≤ steps.old + cost_with (option_map (λ n. n.now) with.entry)
         (given (option_map (λ n. n.now) with.entry) (option_map (λ v. v.now) value.entry) (read_relvars relvars.now).relvars) (read_tree tree.now) }
 {
     let scope = Scope {
         relvars,
+        stored,
         with,
         value,
         before: relvars.list.len(),
@@ -50,20 +55,23 @@ pub fn eval<L: Ledger>(
     answer(alloc, tree, Surrounding::Plainly, &scope, steps)
 }
 
-/// Whether a test holds where these are the relvars and views, or its first fault.
-pub fn test<L: Ledger>(
+/// Whether a test holds where these are the relvars and views, or its first fault. A stored view's rows are read from the place of its entry.
+pub fn test<'a, L: Ledger>(
     alloc: Global,
     test: &RelTest,
-    relvars: &Relvars,
+    relvars: &'a Relvars,
+    stored: &'a [Option<Relation>],
     steps: &mut Steps<L>,
 ) -> Result<bool, Stop>
     requires well_made { IsWellMade (read_relvars relvars.now) }
     requires typed { IsTypedTestFor (read_relvars relvars.now) (read_test test.now) }
+    requires stored { AreStored (read_relvars relvars.now).relvars stored.now }
     ensures value { Answers result (truth_in (read_relvars relvars.now).relvars (read_test test.now)) }
     ensures cost { steps.new ≤ steps.old + test_cost (read_relvars relvars.now).relvars (read_test test.now) }
 {
     let scope = Scope {
         relvars,
+        stored,
         with: None,
         value: None,
         before: relvars.list.len(),

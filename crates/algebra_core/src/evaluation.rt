@@ -9,12 +9,13 @@ ghost use Rattle.tree_core.specs.Trees.{read_tree, read_sets, read_aggregate, na
 ghost use Rattle.meaning_core.specs.Meanings.{RowsMeant, meaning, plainly, at_name, limited};
 ghost use Rattle.algebra_core.specs.Costs.{price_of, tree_cost};
 ghost use Rattle.algebra_core.specs.Operands.{held_in, IsKept};
-ghost use Rattle.algebra_core.specs.Scopes.{CanEvaluate, CanLookUp, known_at, prices_at, stored_cost, stored_meaning, up_to, current, with_of, value_of};
+ghost use Rattle.algebra_core.specs.Scopes.{CanEvaluate, CanLookUp, known_at, prices_at, entry_cost, entry_meaning, up_to, current, with_of, value_of};
 ghost use Rattle.algebra_core.specs.Surroundings.{around_of, MayStand};
 
 use crate::literal::literal;
 use crate::operand::Operand;
 use crate::scope::Scope;
+use crate::stored::stored_rows;
 use crate::surrounding::Surrounding;
 use crate::{operators, surrounded};
 use eval_using::{packed, unpacked};
@@ -61,7 +62,7 @@ pub(crate) fn answer<L: Ledger>(
     }
 }
 
-/// The relation of an operand: that of a base relvar's name stays where it is.
+/// The relation of an operand: that of a base relvar's name stays where it is, and so does what is stored of a view.
 #[cycle(answer)]
 pub(crate) fn operand<'a, L: Ledger>(
     alloc: Global,
@@ -98,15 +99,15 @@ fn named<L: Ledger>(
 {
     match scope.relvars.list.get_full(name) {
         Some((at, _, relvar)) => {
-            or_fault_at_name(place, stored(alloc, name, at, relvar, scope, steps))
+            or_fault_at_name(place, looked_up(alloc, name, at, relvar, scope, steps))
         }
         None => unreachable!(),
     }
 }
 
-// The value of a base relvar or a log, or the relation of a view's expression, which names entries before it alone.
+// The value of a base relvar or a log, what is stored of a view, or the relation of its expression, which names entries before it alone.
 #[cycle(answer)]
-fn stored<L: Ledger>(
+fn looked_up<L: Ledger>(
     alloc: Global,
     name: &Name,
     at: usize,
@@ -115,18 +116,24 @@ fn stored<L: Ledger>(
     steps: &mut Steps<L>,
 ) -> Result<Relation, Stop>
     requires { CanLookUp scope.now name.now at (read_relvar relvar.now) }
-    ensures value { Answers result (under (relvar_heading (read_relvar relvar.now)) (stored_meaning scope.now name.now at (read_relvar relvar.now))) }
-    ensures cost { steps.new ≤ steps.old + stored_cost scope.now at (read_relvar relvar.now) }
+    ensures value { Answers result (under (relvar_heading (read_relvar relvar.now)) (entry_meaning scope.now name.now at (read_relvar relvar.now))) }
+    ensures cost { steps.new ≤ steps.old + entry_cost scope.now at (read_relvar relvar.now) }
 {
     match relvar {
         Relvar::Base {
             value,
             constraints: _,
         } => base_value(alloc, name, value, scope),
-        Relvar::View { tree, kind: _ } => {
-            let before = earlier(scope, at);
-            answer(alloc, tree, Surrounding::Plainly, &before, steps)
-        }
+        Relvar::View { tree, kind } => match stored_rows(tree, kind, at, scope) {
+            Some(rows) => {
+                let relation = rows.copy(alloc)?;
+                Ok(relation)
+            }
+            None => {
+                let before = earlier(scope, at);
+                answer(alloc, tree, Surrounding::Plainly, &before, steps)
+            }
+        },
         Relvar::Log { of: _, log } => Ok(log.relation(alloc)?),
     }
 }
@@ -358,13 +365,14 @@ fn earlier<'a>(scope: &Scope<'a>, at: usize) -> Scope<'a>
 {
     Scope {
         relvars: scope.relvars,
+        stored: scope.stored,
         with: scope.with,
         value: scope.value,
         before: at,
     }
 }
 
-// The value that an expression names, where it names a base relvar.
+// The value that an expression names, where it names a base relvar, or a view of which rows are stored.
 fn kept<'a>(tree: &RelTree, scope: &Scope<'a>) -> Option<&'a Relation>
     requires { CanEvaluate scope.now (read_tree tree.now) }
     ensures { IfSome result (λ v. under tree.now.heading (meaning (known_at scope.now) plainly (read_tree tree.now)) ≡ Ok v.now) }
@@ -373,14 +381,19 @@ fn kept<'a>(tree: &RelTree, scope: &Scope<'a>) -> Option<&'a Relation>
         return None;
     };
     match scope.relvars.list.get_full(name) {
-        Some((_, _, relvar)) => kept_at(name, relvar, scope),
+        Some((at, _, relvar)) => kept_at(name, at, relvar, scope),
         None => None,
     }
 }
 
-// The value of a base relvar, or the one that stands for it; none of a view or a log.
-fn kept_at<'a>(name: &Name, relvar: &'a Relvar, scope: &Scope<'a>) -> Option<&'a Relation>
-    ensures { IfSome result (λ v. IsKept scope.now name.now (read_relvar relvar.now) v.now) }
+// The value of a base relvar, or the one that stands for it; the rows that are stored of a view; none of a log.
+fn kept_at<'a>(
+    name: &Name,
+    at: usize,
+    relvar: &'a Relvar,
+    scope: &Scope<'a>,
+) -> Option<&'a Relation>
+    ensures { IfSome result (λ v. IsKept scope.now name.now at (read_relvar relvar.now) v.now) }
 {
     match relvar {
         Relvar::Base {
@@ -391,7 +404,11 @@ fn kept_at<'a>(name: &Name, relvar: &'a Relvar, scope: &Scope<'a>) -> Option<&'a
             prove!(relation.rows().len() <= MOST_ROWS);
             Some(relation)
         }
-        Relvar::View { tree: _, kind: _ } => None,
+        Relvar::View { tree, kind } => {
+            let relation = stored_rows(tree, kind, at, scope)?;
+            prove!(relation.rows().len() <= MOST_ROWS);
+            Some(relation)
+        }
         Relvar::Log { of: _, log: _ } => None,
     }
 }

@@ -7,6 +7,7 @@ mod literal;
 mod operand;
 mod operators;
 mod scope;
+mod stored;
 mod summary;
 mod surrounded;
 mod surrounding;

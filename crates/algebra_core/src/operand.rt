@@ -4,7 +4,7 @@ ghost use Rattle.algebra_core.specs.Operands.{held};
 
 use value_core::Relation;
 
-/// The relation of an operand: made for it, or the value of a base relvar where it is kept.
+/// The relation of an operand: made for it, or the value of a base relvar or what is stored of a view, where it is kept.
 #[derive(Drop)]
 pub(crate) enum Operand<'a> {
     Made(Relation),

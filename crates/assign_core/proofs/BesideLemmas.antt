@@ -40,7 +40,7 @@ use Rattle.assign_core.specs.Assignments.{seen_by, source_value, with_target, ev
 use Rattle.assign_core.specs.Breaches.{count_of, rows_of_all}
 use Rattle.assign_core.specs.Databases.{IsKept}
 use Rattle.assign_core.specs.Beside.{has_log_of, is_one_logged, IsBeside}
-use Rattle.assign_core.specs.Logs.{have_room, unless_full, IsRoomFor}
+use Rattle.assign_core.specs.Logs.{have_log_room, unless_logs_full, IsLogRoomFor}
 use Rattle.assign_core.specs.Parts.{names_in}
 use Rattle.assign_core.proofs.GainLemmas.{apart_stays, named_other}
 use Rattle.assign_core.proofs.GainedLemmas.{entries_are}
@@ -269,7 +269,7 @@ module _ (s : State) (list : List PlainAssignment) (kept : IsKept s) (beside : I
       let differ = relvars_differ s kept.well_made in
       evaluated-after s.relvars differ list s.relvars last 0 beside.others (none-after s.relvars differ) e
 
-  room-after : (last : Entries) → evaluated s.relvars s.relvars list ≡ Ok last → have_room (turned_logs last) ≡ true
+  room-after : (last : Entries) → evaluated s.relvars s.relvars list ≡ Ok last → have_log_room (turned_logs last) ≡ true
   room-after last e =
       let is = after last e in
       let same = turned-same s.relvars last s.relvars is.same in
@@ -281,10 +281,10 @@ module _ (s : State) (list : List PlainAssignment) (kept : IsKept s) (beside : I
       (omega (arith, turn, bases, logs, few)) (is.each last ∙ (ap are_each_few same ∙ beside.each))
 
   -- there is room for what the assignments come to
-  pub beside_room : IsRoomFor (evaluated s.relvars s.relvars list)
+  pub beside_room : IsLogRoomFor (evaluated s.relvars s.relvars list)
   beside_room = λ meant. by meant (evaluated s.relvars s.relvars list) refl
     where
-      by : (meant : Result Entries Refuse) (v : OrFault Entries) → evaluated s.relvars s.relvars list ≡ v → unless_full v meant ≡ meant
+      by : (meant : Result Entries Refuse) (v : OrFault Entries) → evaluated s.relvars s.relvars list ≡ v → unless_logs_full v meant ≡ meant
       by meant (Err g) e = refl
       by meant (Ok last) e = ap (λ (b : Bool). cond b meant (Err (Plain E46))) (room-after last e)
 

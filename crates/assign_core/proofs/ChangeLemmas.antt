@@ -11,6 +11,7 @@ use Rattle.meaning_core.specs.Names.{IsFirstAt}
 use Rattle.meaning_core.specs.WellMade.{IsBase}
 use Rattle.meaning_core.proofs.MadeLemmas.{same_name}
 use Rattle.relvar_logs.specs.Changes.{Changes, IsChange, AreChanges, changed_relvar, changed}
+use Rattle.assign_core.specs.Breaches.{value_if, value_of}
 use Rattle.assign_core.specs.Parts.{names_in}
 use Rattle.assign_core.proofs.NameLemmas.{turned}
 use Rattle.meaning_core.proofs.RowlessLemmas.{bare_all, bare, bare-with_value}
@@ -113,3 +114,32 @@ put_given (e ∷ es) (c ∷ cs) name zero r value d h first =
 put_given (e ∷ es) (c ∷ cs) name (suc i) r value d h first =
     ap₂ (λ (x : PlainRelvar) (z : Entries). (e.0, x) ∷ z)
     (sym (ap (λ (b : Bool). cond b (with_value value (changed_relvar c e.1)) (changed_relvar c e.1)) first.0)) (put_given es cs name i r value d.1 h.1 first.1)
+
+-- ---- its own value
+
+own-one : (r : PlainRelvar) (value : Relation) → value_of r ≡ Some value → with_value value r ≡ r
+own-one (base old constraints) value e = let same : old ≡ value = cc in ap (λ (v : Relation). base v constraints) (sym same)
+own-one (view t kind) value e = refl
+own-one (log of side last w) value e = refl
+
+-- a relvar that is given the value that it has
+pub own_given : (es : Entries) (name : Name) (value : Relation) → IsDistinct bytes_eq (names_in es) → value_if (relvar_named es name) ≡ Some value → given (Some name) (Some value) es ≡ es
+unfolding IsDistinct
+own_given [] name value d e = refl
+own_given (r ∷ es) name value d e = by (bytes_eq r.0 name) refl (own_given es name value d.1) e
+  where
+    by : (b : Bool) → bytes_eq r.0 name ≡ b → (value_if (relvar_named es name) ≡ Some value → given (Some name) (Some value) es ≡ es) → value_if (cond b (Some r.1) (relvar_named es name)) ≡ Some value
+        → given (Some name) (Some value) (r ∷ es) ≡ r ∷ es
+    by true q more f =
+        ap₂ (λ (x : PlainRelvar) (z : Entries). (r.0, x) ∷ z)
+        (ap (λ (b : Bool). cond b (with_value value r.1) r.1) q ∙ own-one r.1 value f) (sym (apart_given es [] r.0 name value q d.0))
+    by false q more f = ap₂ (λ (x : PlainRelvar) (z : Entries). (r.0, x) ∷ z) (ap (λ (b : Bool). cond b (with_value value r.1) r.1) q) (more f)
+
+pub nothing_given : (es : Entries) (name : Name) → given (Some name) None es ≡ es
+nothing_given [] name = refl
+nothing_given (e ∷ es) name = ap (λ (z : Entries). e ∷ z) (nothing_given es name)
+
+-- the same, whichever it is
+pub same_given : (es : Entries) (name : Name) (o : Option Relation) → IsDistinct bytes_eq (names_in es) → o ≡ value_if (relvar_named es name) → given (Some name) o es ≡ es
+same_given es name None d e = nothing_given es name
+same_given es name (Some value) d e = own_given es name value d (sym e)

@@ -12,7 +12,7 @@ use Rattle.u_constraints.specs.Constraints.{broken}
 use Rattle.assign_core.specs.Assignments.{source_value, with_target, evaluated}
 use Rattle.assign_core.specs.Breaches.{rows_named, first_in}
 use Rattle.relvar_logs.specs.Changes.{Changes, changed}
-use Rattle.assign_core.specs.Costs.{source_cost, behind, sources_cost, where_kept, cost_over, looked_at, looked_at_in, looked_at_all, constraints_cost, constraints_cost_of, assignments_cost}
+use Rattle.assign_core.specs.Costs.{later_cost, behind, later_costs, sources_cost, where_kept, cost_over, looked_at, looked_at_in, looked_at_all, constraints_cost, constraints_cost_of, assignments_cost}
 use Rattle.assign_core.proofs.ChangeLemmas.{none_changed}
 
 -- ---- the constraints of a relvar
@@ -55,30 +55,38 @@ module _ (all : Entries) where
 -- ---- sources
 
 module _ (old : Entries) where
-  source_here : (new : Entries) (i : ℕ) (xs : List Assignment) (d : Assignment) → i < length xs
-      → sources_cost old new (map read_assignment (drop i xs))
-      ≡ sources_cost old new (read_assignment (slice_index_or xs i d) ∷ map read_assignment (drop (suc i) xs))
-  source_here new i [] d l = absurd (omega arith)
-  source_here new zero (x ∷ xs) d l = refl
-  source_here new (suc i) (x ∷ xs) d l = source_here new i xs d (omega arith)
+  source_here : (done : List Name) (new : Entries) (i : ℕ) (xs : List Assignment) (d : Assignment) → i < length xs
+      → later_costs done old new (map read_assignment (drop i xs))
+      ≡ later_costs done old new (read_assignment (slice_index_or xs i d) ∷ map read_assignment (drop (suc i) xs))
+  source_here done new i [] d l = absurd (omega arith)
+  source_here done new zero (x ∷ xs) d l = refl
+  source_here done new (suc i) (x ∷ xs) d l = source_here done new i xs d (omega arith)
 
-  behind_value : (new after : Entries) (a : PlainAssignment) (rest : List PlainAssignment) → evaluated old new (a ∷ []) ≡ Ok after
-      → behind (source_value old new a) (λ value. sources_cost old (with_target new a.target value) rest) ≡ sources_cost old after rest
-  behind_value new after a rest e = by (source_value old new a) e
+  pub source_first : (done : List Name) (new : Entries) (i : ℕ) (xs : List Assignment) (d : Assignment) → i < length xs
+      → later_cost done old new (read_assignment (slice_index_or xs i d)) ≤ later_costs done old new (map read_assignment (drop i xs))
+  source_first done new i xs d l = let here = source_here done new i xs d l in omega (arith, here)
+
+  behind_value : (done : List Name) (new after : Entries) (a : PlainAssignment) (rest : List PlainAssignment) → evaluated old new (a ∷ []) ≡ Ok after
+      → behind (source_value old new a) (λ value. later_costs done old (with_target new a.target value) rest) ≡ later_costs done old after rest
+  behind_value done new after a rest e = by (source_value old new a) e
     where
       by : (r : OrFault Relation) → then_give r (λ v. evaluated old (with_target new a.target v) []) ≡ Ok after
-          → behind r (λ value. sources_cost old (with_target new a.target value) rest) ≡ sources_cost old after rest
-      by (Ok v) f = let same : with_target new a.target v ≡ after = cc in ap (λ z. sources_cost old z rest) same
+          → behind r (λ value. later_costs done old (with_target new a.target value) rest) ≡ later_costs done old after rest
+      by (Ok v) f = let same : with_target new a.target v ≡ after = cc in ap (λ z. later_costs done old z rest) same
       by (Err g) f = absurd (cc)
 
-  pub sources_left : (new after : Entries) (i : ℕ) (xs : List Assignment) (d : Assignment) → i < length xs → evaluated old new (read_assignment (slice_index_or xs i d) ∷ []) ≡ Ok after
-      → sources_cost old new (map read_assignment (drop i xs)) ≡ source_cost old new (read_assignment (slice_index_or xs i d)) + sources_cost old after (map read_assignment (drop (i + 1) xs))
-  sources_left new after i xs d l e =
+  pub sources_left : (done : List Name) (new after : Entries) (i : ℕ) (xs : List Assignment) (d : Assignment) → i < length xs
+      → evaluated old new (read_assignment (slice_index_or xs i d) ∷ []) ≡ Ok after
+      → later_costs done old new (map read_assignment (drop i xs))
+      ≡ later_cost done old new (read_assignment (slice_index_or xs i d))
+      + later_costs ((read_assignment (slice_index_or xs i d)).target ∷ done) old after (map read_assignment (drop (i + 1) xs))
+  sources_left done new after i xs d l e =
       let one : i + 1 ≡ suc i = omega arith in
       let a = read_assignment (slice_index_or xs i d) in
-      source_here new i xs d l
-      ∙ (ap (λ m. source_cost old new a + m) (behind_value new after a (map read_assignment (drop (suc i) xs)) e)
-      ∙ ap (λ m. source_cost old new a + sources_cost old after (map read_assignment (drop m xs))) (sym one))
+      let next = a.target ∷ done in
+      source_here done new i xs d l
+      ∙ (ap (λ m. later_cost done old new a + m) (behind_value next new after a (map read_assignment (drop (suc i) xs)) e)
+      ∙ ap (λ m. later_cost done old new a + later_costs next old after (map read_assignment (drop m xs))) (sym one))
 
 -- ---- assignments
 

@@ -31,8 +31,8 @@ use Rattle.assign_core.specs.Breaches.{first_broken, first_rule_broken, rows_of_
 use Rattle.assign_core.specs.Costs.{constraints_cost}
 use Rattle.assign_core.specs.Databases.{IsKept}
 use Rattle.assign_core.specs.Gained.{less, MayGain}
-use Rattle.assign_core.specs.Logs.{have_room, unless_full}
-use Rattle.assign_core.specs.NewRows.{joining, brought_in, joined_cost, values_brought, HasRoomFor, IsBaseWith, IsGivenTo, IsToldOf}
+use Rattle.assign_core.specs.Logs.{have_log_room, unless_logs_full}
+use Rattle.assign_core.specs.NewRows.{joining, brought_in, joined_cost, values_brought, HasLogRoomFor, IsBaseWith, IsGivenTo, IsToldOf}
 use Rattle.assign_core.proofs.GainLemmas.{fewer_new, grown_back, room_given, taken_back}
 use Rattle.assign_core.proofs.InTurnLemmas.{apart_left}
 use Rattle.assign_core.proofs.LoggedLemmas.{has_changed, fits_then}
@@ -90,7 +90,7 @@ module _ (s : State) (name : Name) (rows : Relation) (at : ℕ) (old : Relation)
         has_changed s name at old may.base.constraints grown come gone (length rows.rows) kept step may.base.first (headed ∙ may.base.headed) (ap (λ (r : Relation). r.heading) none) few_come all_come with_all
         may.fits
 
-  has_room : have_room (turned_logs after) ≡ true
+  has_room : have_log_room (turned_logs after) ≡ true
   has_room =
       let come : Relation = record { heading = rows.heading; rows = subtracted rows.rows old.rows } in
       let none : Relation = record { heading = old.heading; rows = [] } in
@@ -118,9 +118,9 @@ module _ (s : State) (name : Name) (rows : Relation) (at : ℕ) (old : Relation)
   brought_so : (v : Relation) (here there : Place) (given_rows : List Row) → IsGivenTo s name rows v given_rows → values_brought s.relvars (joining None) here there name v given_rows ≡ Ok after
   brought_so v here there given_rows g = is_new s (joining None) name rows (λ m. Unit {0}) 0 0 arrival v here there given_rows g
 
-  pub has_room_for : HasRoomFor (joining None) s name rows
+  pub has_room_for : HasLogRoomFor (joining None) s name rows
   has_room_for = λ v here there given_rows g.
-      ap (λ (r : OrFault Entries). unless_full r (brought_in s (joining None) here there name v given_rows)) (brought_so v here there given_rows g)
+      ap (λ (r : OrFault Entries). unless_logs_full r (brought_in s (joining None) here there name v given_rows)) (brought_so v here there given_rows g)
       ∙ ap (λ (b : Bool). cond b (brought_in s (joining None) here there name v given_rows) (Err (Plain E46))) has_room
 
   given_to : IsGivenTo s name rows old rows.rows

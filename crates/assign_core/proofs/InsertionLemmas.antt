@@ -34,14 +34,16 @@ use Rattle.meaning_core.proofs.LookupLemmas.{under_ok}
 use Rattle.meaning_core.proofs.MadeLemmas.{own_name}
 use Rattle.eval_using.specs.Using.{around}
 use Rattle.eval_using.proofs.UnderLemmas.{set_meant}
-use Rattle.algebra_core.specs.Costs.{Prices, tree_cost, prices_in, cost_in, paid, known_of}
+use Rattle.algebra_core.specs.Costs.{Prices, tree_cost, prices_in, cost_in, cost_with, paid, known_of}
 use Rattle.algebra_core.proofs.CostLemmas.{known_each}
 use Rattle.assign_core.specs.Assignments.{seen_by, source_value, with_target, evaluated}
 use Rattle.assign_core.specs.Breaches.{value_if}
 use Rattle.relvar_logs.specs.Changes.{Changes, changed}
 use Rattle.assign_core.specs.Costs.{source_cost, sources_cost}
 use Rattle.assign_core.specs.Insertions.{Nodes, insertion_of, united_in, united_cost}
+use Rattle.assign_core.specs.Renewed.{renewing}
 use Rattle.assign_core.proofs.ChangeLemmas.{none_changed}
+use Rattle.assign_core.proofs.RenewedNames.{none_renewing}
 
 -- ---- headings
 
@@ -171,7 +173,7 @@ module _ (es : Entries) (target : Name) (at : ℕ) (value : Relation) (constrain
     prices = prices_in seen
 
     name_known : meaning (known_of prices) plainly left ≡ Ok value.rows
-    name_known = ap (λ (k : Known). meaning k plainly left) (known_each [] seen) ∙ name_meant
+    name_known = ap (λ (k : Known). meaning k plainly left) (known_each None [] seen) ∙ name_meant
 
     -- the steps of its nodes
     abbrev after_operand : Option (List ℕ) → List Row → List Row → ℕ
@@ -200,7 +202,7 @@ module _ (es : Entries) (target : Name) (at : ℕ) (value : Relation) (constrain
     both_cost list rows told =
         let more = nodes_cost list in
         let known : meaning (known_of prices) plainly operand ≡ Ok rows.rows =
-        ap (λ (k : Known). meaning k plainly operand) (known_each [] seen) ∙ (under_ok (heading_of operand) (meaning_in seen operand) rows told).0 in
+        ap (λ (k : Known). meaning k plainly operand) (known_each None [] seen) ∙ (under_ok (heading_of operand) (meaning_in seen operand) rows told).0 in
         let is : paid (meaning (known_of prices) plainly operand) (after_operand list value.rows) ≡ united_cost list (length value.rows + length rows.rows) =
         ap (λ (m : RowsMeant). paid m (after_operand list value.rows)) known ∙ after_is list rows in
         omega (arith, more, is)
@@ -210,6 +212,9 @@ module _ (es : Entries) (target : Name) (at : ℕ) (value : Relation) (constrain
     module _ (none : Changes) (count : ℕ) (empty : none ≡ replicate count None) (list : Option (List ℕ)) (b : PlainAssignment) (same : b ≡ insertion list) where
       seen_so : seen_by es (changed none es) target ≡ seen
       seen_so = ap (λ (z : Entries). seen_by es z target) (ap (λ (cs : Changes). changed cs es) empty ∙ none_changed es count)
+
+      priced : cost_with (renewing none es target) (seen_by es (changed none es) target) operand ≡ cost_in seen operand
+      priced = λ i. cost_with (none_renewing none count es target empty i) (seen_so i) operand
 
       operand_told : (v : Relation) → under (heading_of operand) (meaning_in (seen_by es (changed none es) target) operand) ≡ Ok v → under (heading_of operand) (meaning_in seen operand) ≡ Ok v
       operand_told v told = ap (λ (z : Entries). under (heading_of operand) (meaning_in z operand)) (sym seen_so) ∙ told
@@ -225,18 +230,18 @@ module _ (es : Entries) (target : Name) (at : ℕ) (value : Relation) (constrain
           subst (λ (z : PlainAssignment). Answers {A = Entries} (Err stop) (evaluated es es (z ∷ []))) (sym same)
           (operand_stopped stop (subst (λ (z : Entries). Answers {A = Relation} (Err stop) (under (heading_of operand) (meaning_in z operand))) seen_so told))
 
-      pub cost_told : (old new : ℕ) → new ≤ old + cost_in (seen_by es (changed none es) target) operand → new ≤ old + sources_cost es es (b ∷ [])
+      pub cost_told : (old new : ℕ) → new ≤ old + cost_with (renewing none es target) (seen_by es (changed none es) target) operand → new ≤ old + sources_cost es es (b ∷ [])
       cost_told old new h =
           let w = operand_cost list in
-          let k : cost_in (seen_by es (changed none es) target) operand ≡ cost_in seen operand = ap (λ (z : Entries). cost_in z operand) seen_so in
+          let k : cost_with (renewing none es target) (seen_by es (changed none es) target) operand ≡ cost_in seen operand = priced in
           let m : sources_cost es es (b ∷ []) ≡ sources_cost es es (insertion list ∷ []) = ap (λ (z : PlainAssignment). sources_cost es es (z ∷ [])) same in
           omega (arith, h, w, k, m)
 
       pub left_told : (v : Relation) (old new : ℕ) → under (heading_of operand) (meaning_in (seen_by es (changed none es) target) operand) ≡ Ok v
-          → new ≤ old + cost_in (seen_by es (changed none es) target) operand → new + united_cost list (length value.rows + length v.rows) ≤ old + sources_cost es es (b ∷ [])
+          → new ≤ old + cost_with (renewing none es target) (seen_by es (changed none es) target) operand → new + united_cost list (length value.rows + length v.rows) ≤ old + sources_cost es es (b ∷ [])
       left_told v old new told h =
           let w = both_cost list v (operand_told v told) in
-          let k : cost_in (seen_by es (changed none es) target) operand ≡ cost_in seen operand = ap (λ (z : Entries). cost_in z operand) seen_so in
+          let k : cost_with (renewing none es target) (seen_by es (changed none es) target) operand ≡ cost_in seen operand = priced in
           let m : sources_cost es es (b ∷ []) ≡ sources_cost es es (insertion list ∷ []) = ap (λ (z : PlainAssignment). sources_cost es es (z ∷ [])) same in
           omega (arith, h, w, k, m)
 

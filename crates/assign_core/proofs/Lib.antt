@@ -45,3 +45,11 @@ pub mod StateLemmas
 pub mod StepLemmas
 pub mod ToldLemmas
 pub mod TouchLemmas
+pub mod KindLemmas
+pub mod UnstoredLemmas
+pub mod RenewedNames
+pub mod CrowdLemmas
+pub mod StoredLemmas
+pub mod MovingLemmas
+pub mod KeepingLemmas
+pub mod DroppedLemmas

@@ -42,7 +42,9 @@ use Rattle.relation_core.specs.Hashes.{HashList}
 use Rattle.relvar_logs.specs.Changes.{Changes, changed_relvar, changed}
 use Rattle.relvar_logs.specs.Room.{are_each_few, left_of, log_count, rows_of_logs}
 use Rattle.relvar_logs.specs.Turning.{IsNext, AreNext, IsFull}
-use Rattle.assign_core.specs.Assignments.{source_value, with_target, evaluated, unless_broken, kept_or_refused, of_values, after_assignments, unless_rule_broken, assigned_in, IsDone, IsRefusedFor}
+use Rattle.stored_views.specs.Stored.{are_stored_few, has_stored, rows_of_stored}
+use Rattle.stored_views.proofs.BehindLemmas.{few-behind, rows-behind}
+use Rattle.assign_core.specs.Assignments.{source_value, with_target, evaluated, unless_broken, kept_or_refused, of_values, after_assignments, unless_rule_broken, assigned_beside, IsDone, IsRefusedFor}
 use Rattle.assign_core.specs.Breaches.{value_of, value_if, value_at, or_later, rows_of_all, rows_named, first_in, first_among, first_broken, first_rule_broken}
 use Rattle.assign_core.specs.Databases.{IsKept, IsSettled}
 use Rattle.assign_core.specs.declared.hashed.Hashed.{Hashed}
@@ -50,15 +52,17 @@ use Rattle.assign_core.specs.Hashed.{AreHashed, AreHashesAt, AreHashesIn}
 use Rattle.assign_core.specs.Exchanges.{with_ready, IsReady}
 use Rattle.assign_core.specs.declared.exchange.Ready.{Ready}
 use Rattle.relvar_logs.specs.Opening.{logs_fit, IsOpenedIn}
-use Rattle.assign_core.specs.Logs.{counted_if, have_room, if_room, opened, unless_full, KeepsLogs}
-use Rattle.assign_core.specs.NewRows.{Arriving, value_brought, values_brought, HasRoomFor}
+use Rattle.assign_core.specs.Logs.{counted_if, have_log_room, if_log_room, unless_logs_full, KeepsLogs}
+use Rattle.assign_core.specs.NewRows.{Arriving, value_brought, values_brought, HasLogRoomFor}
+use Rattle.assign_core.specs.Room.{have_room, opened}
 use Rattle.assign_core.proofs.DeclaredLemmas.{kept_more, rows_of_both, rules_stay, same_among}
+use Rattle.assign_core.proofs.KindLemmas.{as_many, kinds_alike}
 use Rattle.assign_core.proofs.RenewedLemmas.{bare_exchanged}
 
 -- ---- logs that are turned
 
 module _ (all : Entries) where
-  abbrev turned : Entries → Entries
+  abbrev pub turned : Entries → Entries
   turned es = map (λ r. (r.0, turned_relvar all r.1)) es
 
   value-one : (r : PlainRelvar) → value_of (turned_relvar all r) ≡ value_of r
@@ -181,7 +185,7 @@ evaluated-logs old new last (a ∷ list) e =
     then-logs (source_value old new a) (λ value. evaluated old (with_target new a.target value) list) last new
     (λ value f. evaluated-logs old (with_target new a.target value) last list f ∙ given-logs (Some a.target) (Some value) new) e
 
-no-rows : (es : Entries) → has_log es ≡ false → (rows_of_logs es ≡ 0) × (are_each_few es ≡ true)
+pub no-rows : (es : Entries) → has_log es ≡ false → (rows_of_logs es ≡ 0) × (are_each_few es ≡ true)
 no-rows [] none = (refl, refl)
 no-rows (e ∷ es) none =
     let parts = or_parts (is_log e.1) (has_log es) none in
@@ -194,18 +198,18 @@ no-rows (e ∷ es) none =
     no-rows-one (view t kind) h = (refl, refl)
     no-rows-one (log of side last w) h = absurd (true≢false h)
 
-room-alone : (es : Entries) → has_log es ≡ false → have_room (turned_logs es) ≡ nat_le (rows_of_all es) most_rows_in_all
+and-true : (b : Bool) → (b && true) ≡ b
+and-true true = refl
+and-true false = refl
+
+room-alone : (es : Entries) → has_log es ≡ false → have_log_room (turned_logs es) ≡ nat_le (rows_of_all es) most_rows_in_all
 room-alone es none =
     let rows = no-rows es none in
     let sum : rows_of_all es + rows_of_logs es ≡ rows_of_all es = let n = rows.0 in omega (arith, n) in
-    ap have_room (turned-none es none) ∙ ((λ i. nat_le (sum i) most_rows_in_all && rows.1 i) ∙ and-true (nat_le (rows_of_all es) most_rows_in_all))
-  where
-    and-true : (b : Bool) → (b && true) ≡ b
-    and-true true = refl
-    and-true false = refl
+    ap have_log_room (turned-none es none) ∙ ((λ i. nat_le (sum i) most_rows_in_all && rows.1 i) ∙ and-true (nat_le (rows_of_all es) most_rows_in_all))
 
 -- what is meant where there is no log then
-full-alone : (rules : Rules) (v : OrFault Entries) → ((new : Entries) → v ≡ Ok new → has_log new ≡ false) → unless_full v (unless_rule_broken rules (of_values v)) ≡ unless_rule_broken rules (of_values v)
+full-alone : (rules : Rules) (v : OrFault Entries) → ((new : Entries) → v ≡ Ok new → has_log new ≡ false) → unless_logs_full v (unless_rule_broken rules (of_values v)) ≡ unless_rule_broken rules (of_values v)
 full-alone rules (Err fault) none = refl
 full-alone rules (Ok new) none =
     ap (λ (b : Bool). cond b (unless_rule_broken rules (kept_or_refused new)) (Err (Plain E46))) (room-alone new (none new refl)) ∙ few (nat_le (rows_of_all new) most_rows_in_all) refl
@@ -215,12 +219,12 @@ full-alone rules (Ok new) none =
     few false q = sym (ap (λ (b : Bool). unless_rule_broken rules (cond b (unless_broken new (first_broken new)) (Err (Plain E46)))) q)
 
 -- assignments where there is no log
-pub assigned_without_logs : (s : State) (list : List PlainAssignment) → has_log s.relvars ≡ false → assigned_in s list ≡ unless_rule_broken s.rules (after_assignments s.relvars list)
+pub assigned_without_logs : (s : State) (list : List PlainAssignment) → has_log s.relvars ≡ false → assigned_beside s list ≡ unless_rule_broken s.rules (after_assignments s.relvars list)
 assigned_without_logs s list none =
     full-alone s.rules (evaluated s.relvars s.relvars list) (λ new e. evaluated-logs s.relvars s.relvars new list e ∙ none)
 
 -- rows that are brought where there is no log
-pub brought_without_logs : (s : State) (way : Arriving) (name : Name) (rows : Relation) → has_log s.relvars ≡ false → HasRoomFor way s name rows
+pub brought_without_logs : (s : State) (way : Arriving) (name : Name) (rows : Relation) → has_log s.relvars ≡ false → HasLogRoomFor way s name rows
 brought_without_logs s way name rows none = λ old at there given_rows g.
     full-alone s.rules (values_brought s.relvars way at there name old given_rows) (λ new e.
     then-logs (value_brought way at there old given_rows) (λ value. Ok (with_target s.relvars name value)) new s.relvars
@@ -234,16 +238,16 @@ unbroken mid new None e = cc
 unbroken mid new (Some refuse) e = absurd (cc)
 
 -- assignments that are accepted
-pub assigned_after : (s : State) (list : List PlainAssignment) (new : Entries) → assigned_in s list ≡ Ok new → after_assignments s.relvars list ≡ Ok new
+pub assigned_after : (s : State) (list : List PlainAssignment) (new : Entries) → assigned_beside s list ≡ Ok new → after_assignments s.relvars list ≡ Ok new
 assigned_after s list new e = by (evaluated s.relvars s.relvars list) e
   where
     rules-kept : (r : Result Entries Refuse) → unless_rule_broken s.rules r ≡ Ok new → r ≡ Ok new
     rules-kept (Ok mid) f = ap Ok (unbroken mid new (first_rule_broken mid s.rules) f)
     rules-kept (Err refuse) f = absurd (cc)
 
-    by : (v : OrFault Entries) → unless_full v (unless_rule_broken s.rules (of_values v)) ≡ Ok new → of_values v ≡ Ok new
+    by : (v : OrFault Entries) → unless_logs_full v (unless_rule_broken s.rules (of_values v)) ≡ Ok new → of_values v ≡ Ok new
     by (Err fault) f = rules-kept (of_values (Err fault)) f
-    by (Ok mid) f = room (have_room (turned_logs mid)) f
+    by (Ok mid) f = room (have_log_room (turned_logs mid)) f
       where
         room : (b : Bool) → cond b (unless_rule_broken s.rules (kept_or_refused mid)) (Err (Plain E46)) ≡ Ok new → kept_or_refused mid ≡ Ok new
         room true g = rules-kept (kept_or_refused mid) g
@@ -257,12 +261,12 @@ refused-through Memory rules r e = tt
 
 -- refused before the database constraints are asked
 pub refused_full : (refuse : Refuse) (s : State) (list : List PlainAssignment)
-    → IsRefusedFor refuse (unless_full (evaluated s.relvars s.relvars list) (after_assignments s.relvars list)) → IsRefusedFor refuse (assigned_in s list)
+    → IsRefusedFor refuse (unless_logs_full (evaluated s.relvars s.relvars list) (after_assignments s.relvars list)) → IsRefusedFor refuse (assigned_beside s list)
 refused_full refuse s list h = by (evaluated s.relvars s.relvars list) (after_assignments s.relvars list) h
   where
-    by : (v : OrFault Entries) (r : Result Entries Refuse) → IsRefusedFor refuse (unless_full v r) → IsRefusedFor refuse (unless_full v (unless_rule_broken s.rules r))
+    by : (v : OrFault Entries) (r : Result Entries Refuse) → IsRefusedFor refuse (unless_logs_full v r) → IsRefusedFor refuse (unless_logs_full v (unless_rule_broken s.rules r))
     by (Err fault) r k = refused-through refuse s.rules r k
-    by (Ok new) r k = room (have_room (turned_logs new)) k
+    by (Ok new) r k = room (have_log_room (turned_logs new)) k
       where
         room : (b : Bool) → IsRefusedFor refuse (cond b r (Err (Plain E46))) → IsRefusedFor refuse (cond b (unless_rule_broken s.rules r) (Err (Plain E46)))
         room true l = refused-through refuse s.rules r l
@@ -336,37 +340,37 @@ fits_not R L most e = by (nat_le L most) (nat_le (R + L) most) refl refl e
         absurd (omega (arith, m, k))
 
 -- the room that new values leave, by the logs as they are among the old ones
-pub room_changed : (cs : Changes) (es : Entries) → have_room (turned_logs (changed cs es))
+pub room_changed : (cs : Changes) (es : Entries) → have_log_room (turned_logs (changed cs es))
     ≡ (nat_le (rows_of_all (changed cs es) + rows_of_logs (turned (changed cs es) es)) most_rows_in_all && are_each_few (turned (changed cs es) es))
 room_changed cs es =
     let new = changed cs es in
     λ i. nat_le (rows_turned new i + rows_changed new cs es i) most_rows_in_all && few_changed new cs es i
 
-and-false : (b : Bool) → (b && false) ≡ false
+pub and-false : (b : Bool) → (b && false) ≡ false
 and-false true = refl
 and-false false = refl
 
-not-room : (new : Entries) → have_room (turned_logs new) ≡ false → if_room new ≡ Err (Plain E46)
+not-room : (new : Entries) → have_log_room (turned_logs new) ≡ false → if_log_room new ≡ Err (Plain E46)
 not-room new e = ap (λ (b : Bool). cond b (Ok new) (Err (Plain E46))) e
 
-pub full_refused : (cs : Changes) (es : Entries) (refuse : Refuse) → IsFull (changed cs es) es refuse → IsRefusedFor refuse (if_room (changed cs es))
+pub full_refused : (cs : Changes) (es : Entries) (refuse : Refuse) → IsFull (changed cs es) es refuse → IsRefusedFor refuse (if_log_room (changed cs es))
 full_refused cs es (Plain code) h =
     let new = changed cs es in
-    let none : have_room (turned_logs new) ≡ false =
+    let none : have_log_room (turned_logs new) ≡ false =
     room_changed cs es ∙ (ap (λ (b : Bool). nat_le (rows_of_all new + rows_of_logs (turned new es)) most_rows_in_all && b) h.1 ∙ and-false (nat_le (rows_of_all new + rows_of_logs (turned new es)) most_rows_in_all)) in
     not-room new none ∙ ap (λ c. Err (Plain c)) (sym h.0)
 full_refused cs es (At fault) h = absurd h
 full_refused cs es (Broken code relvar number) h = absurd h
 full_refused cs es Memory h = tt
 
-pub no_room_refused : (new : Entries) → have_room (turned_logs new) ≡ false → IsRefusedFor (Plain E46) (if_room new)
+pub no_room_refused : (new : Entries) → have_log_room (turned_logs new) ≡ false → IsRefusedFor (Plain E46) (if_log_room new)
 no_room_refused new e = not-room new e
 
 -- ---- what is refused of assignments, with logs
 
 pub fault_full : {V : Type 0} (read : V → Entries) (es : Entries) (list : List PlainAssignment) (stop : Stop) → Gives read (Err stop) (evaluated es es list)
-    → IsRefusedFor (refusal_of stop) (unless_full (evaluated es es list) (after_assignments es list))
-fault_full read es list (Faulted f) told = ap (λ (r : OrFault Entries). unless_full r (of_values r)) told
+    → IsRefusedFor (refusal_of stop) (unless_logs_full (evaluated es es list) (after_assignments es list))
+fault_full read es list (Faulted f) told = ap (λ (r : OrFault Entries). unless_logs_full r (of_values r)) told
 fault_full read es list OfMemory told = tt
 
 room-refused : (refuse : Refuse) (new : Entries) (meant : Result Entries Refuse) (b : Bool) → IsRefusedFor refuse (cond b (Ok new) (Err (Plain E46))) → IsRefusedFor refuse (cond b meant (Err (Plain E46)))
@@ -376,19 +380,19 @@ room-refused (Broken code relvar number) new meant true h = absurd (cc)
 room-refused Memory new meant true h = tt
 room-refused refuse new meant false h = h
 
-pub room_full : (es new : Entries) (list : List PlainAssignment) (refuse : Refuse) → evaluated es es list ≡ Ok new → IsRefusedFor refuse (if_room new)
-    → IsRefusedFor refuse (unless_full (evaluated es es list) (after_assignments es list))
+pub room_full : (es new : Entries) (list : List PlainAssignment) (refuse : Refuse) → evaluated es es list ≡ Ok new → IsRefusedFor refuse (if_log_room new)
+    → IsRefusedFor refuse (unless_logs_full (evaluated es es list) (after_assignments es list))
 room_full es new list refuse e h =
-    subst (λ (r : OrFault Entries). IsRefusedFor refuse (unless_full r (of_values r))) (sym e) (room-refused refuse new (kept_or_refused new) (have_room (turned_logs new)) h)
+    subst (λ (r : OrFault Entries). IsRefusedFor refuse (unless_logs_full r (of_values r))) (sym e) (room-refused refuse new (kept_or_refused new) (have_log_room (turned_logs new)) h)
 
-pub admitted_full : (es new : Entries) (list : List PlainAssignment) (refuse : Refuse) → evaluated es es list ≡ Ok new → have_room (turned_logs new) ≡ true → IsRefusedFor refuse (kept_or_refused new)
-    → IsRefusedFor refuse (unless_full (evaluated es es list) (after_assignments es list))
+pub admitted_full : (es new : Entries) (list : List PlainAssignment) (refuse : Refuse) → evaluated es es list ≡ Ok new → have_log_room (turned_logs new) ≡ true → IsRefusedFor refuse (kept_or_refused new)
+    → IsRefusedFor refuse (unless_logs_full (evaluated es es list) (after_assignments es list))
 admitted_full es new list refuse e room h =
-    subst (λ (r : OrFault Entries). IsRefusedFor refuse (unless_full r (of_values r))) (sym e) (subst (λ (b : Bool). IsRefusedFor refuse (cond b (kept_or_refused new) (Err (Plain E46)))) (sym room) h)
+    subst (λ (r : OrFault Entries). IsRefusedFor refuse (unless_logs_full r (of_values r))) (sym e) (subst (λ (b : Bool). IsRefusedFor refuse (cond b (kept_or_refused new) (Err (Plain E46)))) (sym room) h)
 
 -- what is meant, where there is room
-pub with_room : (es new : Entries) (list : List PlainAssignment) (meant : Result Entries Refuse) → evaluated es es list ≡ Ok new → have_room (turned_logs new) ≡ true → unless_full (evaluated es es list) meant ≡ meant
-with_room es new list meant e room = ap (λ (r : OrFault Entries). unless_full r meant) e ∙ ap (λ (b : Bool). cond b meant (Err (Plain E46))) room
+pub with_room : (es new : Entries) (list : List PlainAssignment) (meant : Result Entries Refuse) → evaluated es es list ≡ Ok new → have_log_room (turned_logs new) ≡ true → unless_logs_full (evaluated es es list) meant ≡ meant
+with_room es new list meant e room = ap (λ (r : OrFault Entries). unless_logs_full r meant) e ∙ ap (λ (b : Bool). cond b meant (Err (Plain E46))) room
 
 -- ---- hashes
 
@@ -414,14 +418,21 @@ fault_given read es start last list OfMemory same told = tt
 
 -- ---- what is settled
 
--- logs stay, and the number of accepted statements
+-- a state that stays
+pub stays_logs : (s now : State) → now ≡ s → KeepsLogs s now
+stays_logs s now e = (ap (λ (t : State). has_log t.relvars) e, ap (λ (t : State). t.accepted) e, ap (λ (t : State). has_stored t.relvars) e, ap (λ (t : State). length t.relvars) e)
+
+-- logs and kinds of views stay, and the number of accepted statements
 pub settled_logs : (result : Result (Unit {0}) Refuse) (s now : State) (r : Ready) → IsReady r s.relvars → IsSettled result s now (with_ready r s.relvars) → KeepsLogs s now
 settled_logs (Ok done) s now r ready told =
-    (ap (λ (t : State). has_log t.relvars) told.1 ∙ logs_alike (with_ready r s.relvars) s.relvars (bare_exchanged r.changes.items s.relvars ready), ap (λ (t : State). t.accepted) told.1)
-settled_logs (Err refuse) s now r ready told = (ap (λ (t : State). has_log t.relvars) told.1, ap (λ (t : State). t.accepted) told.1)
-
-pub stays_logs : (s now : State) → now ≡ s → KeepsLogs s now
-stays_logs s now e = (ap (λ (t : State). has_log t.relvars) e, ap (λ (t : State). t.accepted) e)
+    let bare = bare_exchanged r.changes.items s.relvars ready in
+    (
+      ap (λ (t : State). has_log t.relvars) told.1 ∙ logs_alike (with_ready r s.relvars) s.relvars bare,
+      ap (λ (t : State). t.accepted) told.1,
+      ap (λ (t : State). has_stored t.relvars) told.1 ∙ kinds_alike (with_ready r s.relvars) s.relvars bare,
+      ap (λ (t : State). length t.relvars) told.1 ∙ as_many (with_ready r s.relvars) s.relvars bare,
+    )
+settled_logs (Err refuse) s now r ready told = stays_logs s now told.1
 
 -- ---- nothing stands ready
 
@@ -436,22 +447,27 @@ none_ready n all (e ∷ es) h = (one e.1 (All-head (λ r. IsInStep n all r.1) e 
 
 -- ---- a log that is opened
 
-fit-same : (rows : ℕ) (s : State) (d : LogData) → rows ≡ rows_of_all s.relvars → have_room (turned_logs (with_log s d).relvars) ≡ logs_fit rows (turned_logs (with_log s d).relvars)
-fit-same rows s d e =
+fit-same : (rows : ℕ) (s : State) (d : LogData) → IsWellMade s → rows ≡ rows_of_all s.relvars + rows_of_stored s.relvars → are_stored_few s.relvars ≡ true
+    → have_room (with_log s d).relvars ≡ logs_fit rows (turned_logs (with_log s d).relvars)
+fit-same rows s d made e few =
     let more : Entries = (d.name, new_log (heading_if (relvar_named s.relvars d.of)) s.accepted d) ∷ [] in
-    let logs : Entries = turned_logs (s.relvars ++ more) in
-    let same : rows_of_all logs ≡ rows = let turn = rows_turned (s.relvars ++ more) in let both = rows_of_both s.relvars more in omega (arith, turn, both, e) in
-    ap (λ (n : ℕ). nat_le (n + rows_of_logs logs) most_rows_in_all && are_each_few logs) same
+    let new : Entries = s.relvars ++ more in
+    let logs : Entries = turned_logs new in
+    let both = rows_of_both s.relvars more in
+    let stored = rows-behind s more made refl in
+    let sum : rows_of_all new + rows_of_logs logs + rows_of_stored new ≡ rows + rows_of_logs logs = omega (arith, both, stored, e) in
+    (λ i. nat_le (sum i) most_rows_in_all && (are_each_few logs && few-behind s more made refl i))
+    ∙ ((λ i. nat_le (rows + rows_of_logs logs) most_rows_in_all && (are_each_few logs && few i)) ∙ ap (λ (b : Bool). nat_le (rows + rows_of_logs logs) most_rows_in_all && b) (and-true (are_each_few logs)))
 
-pub opened_done : (rows : ℕ) (result : Result (Unit {0}) Refuse) (s new : State) (d : LogData) → rows ≡ rows_of_all s.relvars → IsOpenedIn rows result s new d
-    → (mid : State) × IsDone result s mid (opened s d) × (new ≡ counted_if (is_ok result) mid)
-opened_done rows (Ok done) s new d e h =
-    (with_log s d, ap (λ (b : Bool). cond b (Ok (with_log s d)) (Err (Plain E46))) (fit-same rows s d e ∙ h.0), h.1)
-opened_done rows (Err (Plain code)) s new d e h =
-    (s, (ap (λ (b : Bool). cond b (Ok (with_log s d)) (Err (Plain E46))) (fit-same rows s d e ∙ h.1) ∙ ap (λ c. Err (Plain c)) (sym h.0), refl), h.2)
-opened_done rows (Err (At fault)) s new d e h = absurd h
-opened_done rows (Err (Broken code relvar number)) s new d e h = absurd h
-opened_done rows (Err Memory) s new d e h = (s, (tt, refl), h)
+pub opened_done : (rows : ℕ) (result : Result (Unit {0}) Refuse) (s new : State) (d : LogData) → IsWellMade s → rows ≡ rows_of_all s.relvars + rows_of_stored s.relvars → are_stored_few s.relvars ≡ true
+    → IsOpenedIn rows result s new d → (mid : State) × IsDone result s mid (opened s d) × (new ≡ counted_if (is_ok result) mid)
+opened_done rows (Ok done) s new d made e few h =
+    (with_log s d, ap (λ (b : Bool). cond b (Ok (with_log s d)) (Err (Plain E46))) (fit-same rows s d made e few ∙ h.0), h.1)
+opened_done rows (Err (Plain code)) s new d made e few h =
+    (s, (ap (λ (b : Bool). cond b (Ok (with_log s d)) (Err (Plain E46))) (fit-same rows s d made e few ∙ h.1) ∙ ap (λ c. Err (Plain c)) (sym h.0), refl), h.2)
+opened_done rows (Err (At fault)) s new d made e few h = absurd h
+opened_done rows (Err (Broken code relvar number)) s new d made e few h = absurd h
+opened_done rows (Err Memory) s new d made e few h = (s, (tt, refl), h)
 
 pub opened_kept : (rows : ℕ) (result : Result (Unit {0}) Refuse) (s new : State) (d : LogData) → IsKept s → IsWellMade (with_log s d) → IsOpenedIn rows result s new d → IsKept new
 opened_kept rows (Ok done) s new d kept made h = subst IsKept (sym h.1) (turned_kept (with_log s d) (log_kept s d kept made))

@@ -22,7 +22,7 @@ use Rattle.relvar_logs.proofs.TurningLemmas.{all_there}
 use Rattle.assign_core.specs.Beside.{FitsBeside}
 use Rattle.assign_core.specs.Breaches.{rows_of_all}
 use Rattle.assign_core.specs.Databases.{IsKept}
-use Rattle.assign_core.specs.Logs.{have_room}
+use Rattle.assign_core.specs.Logs.{have_log_room}
 use Rattle.assign_core.proofs.GainLemmas.{are_changing, are_to_change, room_given, rows_given}
 use Rattle.assign_core.proofs.LogLemmas.{rows_turned}
 use Rattle.assign_core.proofs.NameLemmas.{relvars_differ}
@@ -47,7 +47,7 @@ module _ (s : State) (name : Name) (at : ℕ) (v : Relation) (cs : List Constrai
   pub has_changed : AreChanging s.accepted after name come gone after
   has_changed = are_changing s.accepted s.relvars name at v cs w come gone more first came went less exact same step owners fits.logs.few
 
-  pub fits_then : have_room (turned_logs after) ≡ true
+  pub fits_then : have_log_room (turned_logs after) ≡ true
   fits_then =
       let beside = room_given name name w more most_rows_in_all fits.room s.relvars fits.logs in
       let logs = turned_room s.accepted after name come gone has_changed beside.once beside.ended beside.each in

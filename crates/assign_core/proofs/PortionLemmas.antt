@@ -4,7 +4,7 @@
 --     portion_nodes, portion_for      its headings, and what a typed one keeps
 --     name_stands      the name of the target
 --     deletion_told, deletion_paid, deletion_headed      an assignment that is a deletion
-use Rattle.std.proofs.Common.{◌≡◌, ℕ, ◌+◌, ◌≤◌, List, [], ◌∷◌, length, sym, ap, ap₂, subst, ◌∙◌, arith, Ok}
+use Rattle.std.proofs.Common.{◌≡◌, ℕ, ◌+◌, ◌≤◌, List, [], ◌∷◌, length, sym, ap, ap₂, subst, ◌∙◌, arith, None, Ok}
 use Rattle.std.specs.Prelude.{slice_index_or}
 use Rattle.std.specs.Bool.{IsTrue}
 use Rattle.std.proofs.lemmas.List.{length-map}
@@ -118,7 +118,7 @@ module _ (es : Entries) (target : Name) (at : ℕ) (value : Relation) (constrain
       ap (λ (m : RowsMeant). then_give (at_name place m) (limited place)) (target_meant es target at value constraints first) ∙ limited_few place value.rows few
 
   pub name_priced : (place : Place) → meaning (known_of (prices_in seen)) plainly (named place value.heading target) ≡ Ok value.rows
-  name_priced place = ap (λ (k : Known). meaning k plainly (named place value.heading target)) (known_each [] seen) ∙ name_stands place
+  name_priced place = ap (λ (k : Known). meaning k plainly (named place value.heading target)) (known_each None [] seen) ∙ name_stands place
 
 -- the heading of the expression that a target gets
 pub headed_as : (s : State) (es : Entries) (b : PlainAssignment) (at : ℕ) (value : Relation) (constraints : List Constraint) → IsFirstAt es b.target at (base value constraints)

@@ -22,7 +22,7 @@ use Rattle.assign_core.specs.Beside.{FitsBeside}
 use Rattle.assign_core.specs.Costs.{constraints_cost, constraints_cost_of}
 use Rattle.assign_core.specs.Databases.{IsKept}
 use Rattle.assign_core.specs.InPlace.{IsDiffering, IsPrepared, MayGoInPlace}
-use Rattle.assign_core.specs.Logs.{have_room, unless_full}
+use Rattle.assign_core.specs.Logs.{have_log_room, unless_logs_full}
 use Rattle.assign_core.specs.Targets.{entries_after, entries_before, IsTarget}
 use Rattle.assign_core.specs.Turnovers.{renewed, renewed_at}
 use Rattle.assign_core.proofs.AdditionLemmas.{exchange_ready}
@@ -49,7 +49,7 @@ module _ (t : Target) (x : Exchange) (k : IsTarget t) (kept : IsKept (read_relva
   cost_in_place = sym (ap constraints_cost_of becomes)
 
   module _ (step : AreInStep s.accepted s.relvars) where
-    pub room_then : have_room (turned_logs new) ≡ true
+    pub room_then : have_log_room (turned_logs new) ≡ true
     room_then =
         let v = t.value.now in
         let come : Relation = record { heading = v.heading; rows = subtracted (subtracted x.come.rows v.rows) x.gone.rows } in
@@ -57,7 +57,7 @@ module _ (t : Target) (x : Exchange) (k : IsTarget t) (kept : IsKept (read_relva
         let fits =
         fits_then s t.name.now t.at v k.constraints (renewed v x) come gone (length x.come.rows + length x.gone.rows) kept step k.first refl refl (differing_fewer v.rows x.come.rows x.gone.rows)
         (differing_exact v.rows x.come.rows x.gone.rows) (sym (differing_same v.rows x.come.rows x.gone.rows)) may.fits in
-        subst (λ (z : Entries). have_room (turned_logs z) ≡ true) (sym (renewed_given es t.name.now t.at v k.constraints x (relvars_differ s kept.well_made) k.first)) fits
+        subst (λ (z : Entries). have_log_room (turned_logs z) ≡ true) (sym (renewed_given es t.name.now t.at v k.constraints x (relvars_differ s kept.well_made) k.first)) fits
 
     module _ (list : List PlainAssignment) (meant : evaluated es es list ≡ entries_after t x) where
       made : evaluated es es list ≡ Ok new
@@ -80,5 +80,5 @@ module _ (t : Target) (x : Exchange) (k : IsTarget t) (kept : IsKept (read_relva
         may.rules,
       )
 
-      pub refused_in_place : (refuse : Refuse) → IsRefusedFor refuse (kept_or_refused new) → IsRefusedFor refuse (unless_full (evaluated es es list) (after_assignments es list))
+      pub refused_in_place : (refuse : Refuse) → IsRefusedFor refuse (kept_or_refused new) → IsRefusedFor refuse (unless_logs_full (evaluated es es list) (after_assignments es list))
       refused_in_place refuse h = admitted_full es new list refuse made room_then h

@@ -154,7 +154,7 @@ module _ (names : List Name) where
       by true ih own f = ih f
       by false ih own f = none_of_two (first_in (left all) e.0 e.1) (first_among (left all) (left es)) (same_in all e.0 e.1 f.0 ∙ own) (ih f.1)
 
-  fewer_rows : (es : Entries) → rows_of_all (left es) ≤ rows_of_all es
+  pub fewer_rows : (es : Entries) → rows_of_all (left es) ≤ rows_of_all es
   fewer_rows [] = omega arith
   fewer_rows (e ∷ es) = by (is_one_of names e.0) (fewer_rows es)
     where

@@ -21,7 +21,7 @@ use Rattle.meaning_core.specs.Declarations.{with_rule, without_rule}
 use Rattle.meaning_core.specs.Truths.{holds_in}
 use Rattle.meaning_core.specs.WellMade.{all_names, IsTypedTestFor, IsWellMade}
 use Rattle.algebra_core.specs.Costs.{test_cost}
-use Rattle.assign_core.specs.Assignments.{after_assignments, assigned_in, constrained, unless_broken, unless_rule_broken, IsAssigned, IsDone, IsRefusedFor}
+use Rattle.assign_core.specs.Assignments.{after_assignments, assigned_beside, constrained, unless_broken, unless_rule_broken, IsAssignedBeside, IsDone, IsRefusedFor}
 use Rattle.assign_core.specs.Breaches.{first_rule_broken}
 use Rattle.assign_core.specs.Changes.{Tells}
 use Rattle.assign_core.specs.Costs.{rules_cost, rules_cost_of}
@@ -112,16 +112,16 @@ broken_told Memory new o told = tt
 
 -- what is meant turns on no log
 abbrev pub IsPlainFor : State → List PlainAssignment → Type 0
-IsPlainFor s list = assigned_in s list ≡ unless_rule_broken s.rules (after_assignments s.relvars list)
+IsPlainFor s list = assigned_beside s list ≡ unless_rule_broken s.rules (after_assignments s.relvars list)
 
-pub refused_before : (refuse : Refuse) (s : State) (list : List PlainAssignment) → IsPlainFor s list → IsRefusedFor refuse (after_assignments s.relvars list) → IsRefusedFor refuse (assigned_in s list)
+pub refused_before : (refuse : Refuse) (s : State) (list : List PlainAssignment) → IsPlainFor s list → IsRefusedFor refuse (after_assignments s.relvars list) → IsRefusedFor refuse (assigned_beside s list)
 refused_before (Plain code) s list plain e = plain ∙ ap (unless_rule_broken s.rules) e
 refused_before (At fault) s list plain e = plain ∙ ap (unless_rule_broken s.rules) e
 refused_before (Broken code relvar number) s list plain e = plain ∙ ap (unless_rule_broken s.rules) e
 refused_before Memory s list plain e = tt
 
 pub settled_assigned : (result : Result (Unit {0}) Refuse) (s now : State) (new : Entries) (list : List PlainAssignment) → IsPlainFor s list → after_assignments s.relvars list ≡ Ok new
-    → IsSettled result s now new → IsAssigned result s now list
+    → IsSettled result s now new → IsAssignedBeside result s now list
 settled_assigned (Ok done) s now new list plain e told = (
   plain ∙ (ap (unless_rule_broken s.rules) e ∙ (ap (unless_broken new) told.0 ∙ ap (λ (t : State). Ok t.relvars) (sym told.1))),
   told.1 ∙ ap (λ (t : State). record s { relvars = t.relvars }) (sym told.1),

@@ -86,7 +86,7 @@ at_turn [] i d l = absurd (omega arith)
 at_turn (x ∷ xs) zero d l = refl
 at_turn (x ∷ xs) (suc i) d l = ap (λ (z : List PlainAssignment). read_assignment x ∷ z) (at_turn xs i d (omega arith))
 
-take_more : (xs : List Assignment) (i : ℕ) (d : Assignment) → i < length xs → map read_assignment (take (suc i) xs) ≡ map read_assignment (take i xs) ++ read_assignment (slice_index_or xs i d) ∷ []
+pub take_more : (xs : List Assignment) (i : ℕ) (d : Assignment) → i < length xs → map read_assignment (take (suc i) xs) ≡ map read_assignment (take i xs) ++ read_assignment (slice_index_or xs i d) ∷ []
 take_more [] i d l = absurd (omega arith)
 take_more (x ∷ xs) zero d l = refl
 take_more (x ∷ xs) (suc i) d l = ap (λ (z : List PlainAssignment). read_assignment x ∷ z) (take_more xs i d (omega arith))

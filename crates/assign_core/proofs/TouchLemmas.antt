@@ -44,7 +44,7 @@ stays : (c : Option Relation) (r : PlainRelvar) → is_some c ≡ false → chan
 stays None r e = refl
 stays (Some value) r e = absurd (true≢false e)
 
-named_stays : (cs : Changes) (es : Entries) (name : Name) → is_some (change_named cs es name) ≡ false → relvar_named (changed cs es) name ≡ relvar_named es name
+pub named_stays : (cs : Changes) (es : Entries) (name : Name) → is_some (change_named cs es name) ≡ false → relvar_named (changed cs es) name ≡ relvar_named es name
 named_stays [] es name e = refl
 named_stays (c ∷ cs) [] name e = refl
 named_stays (c ∷ cs) (r ∷ es) name e = by (bytes_eq r.0 name) (named_stays cs es name) e

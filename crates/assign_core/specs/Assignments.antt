@@ -2,7 +2,8 @@
 --     seen_by      the state as a source sees it
 --     evaluated      the values of all sources
 --     after_assignments      the relvars with these values, or why they are refused by their own constraints
---     assigned_in      the same, the database constraints of the state asked last
+--     assigned_beside      the same, the database constraints of the state asked last, and unless its logs would have too many rows
+--     assigned_in      the same, unless its logs and stored views would have too many rows
 --     constrained      the state with one database constraint more, or why it is refused
 use Rattle.std.specs.Prelude.{◌≡◌, nat_le, List, [], ◌∷◌, Option, Some, None, Result, Ok, Err, if◌then◌else◌}
 use Rattle.base_core.specs.Outcomes.{then_give}
@@ -21,7 +22,8 @@ use Rattle.meaning_core.specs.Meanings.{meaning_in}
 use Rattle.meaning_core.specs.Names.{given}
 use Rattle.meaning_core.specs.Truths.{holds_in}
 use Rattle.assign_core.specs.Breaches.{value_if, rows_of_all, first_broken, first_rule_broken}
-use Rattle.assign_core.specs.Logs.{unless_full}
+use Rattle.assign_core.specs.Logs.{unless_logs_full}
+use Rattle.assign_core.specs.Room.{unless_full}
 
 -- ---- sources
 
@@ -66,7 +68,11 @@ unless_rule_broken rules (Ok new) = unless_broken new (first_rule_broken new rul
 unless_rule_broken rules (Err refuse) = Err refuse
 
 -- the relvars after assignments in a state, unless its logs would have too many rows; its database constraints are asked after the
--- constraints of its relvars
+-- constraints of its relvars. This is what is meant where there is no stored view
+abbrev pub assigned_beside : State → List PlainAssignment → Result Entries Refuse
+assigned_beside s list = unless_logs_full (evaluated s.relvars s.relvars list) (unless_rule_broken s.rules (after_assignments s.relvars list))
+
+-- the same, unless its logs and stored views would have too many rows
 abbrev pub assigned_in : State → List PlainAssignment → Result Entries Refuse
 assigned_in s list = unless_full (evaluated s.relvars s.relvars list) (unless_rule_broken s.rules (after_assignments s.relvars list))
 
@@ -90,11 +96,16 @@ abbrev pub IsAdmitted : Result (Unit {0}) Refuse → Entries → Type 0
 IsAdmitted (Ok done) new = kept_or_refused new ≡ Ok new
 IsAdmitted (Err refuse) new = IsRefusedFor refuse (kept_or_refused new)
 
--- the state becomes what is meant; where that is refused, or memory is wanting, it stays
+-- the relvars of the state become what is meant; where that is refused, or memory is wanting, the state stays
+abbrev pub IsChanged : Result (Unit {0}) Refuse → State → State → Result Entries Refuse → Type 0
+IsChanged (Ok done) old new meant = (meant ≡ Ok new.relvars) × (new ≡ record old { relvars = new.relvars })
+IsChanged (Err refuse) old new meant = IsRefusedFor refuse meant × (new ≡ old)
+
+abbrev pub IsAssignedBeside : Result (Unit {0}) Refuse → State → State → List PlainAssignment → Type 0
+IsAssignedBeside result old new list = IsChanged result old new (assigned_beside old list)
+
 abbrev pub IsAssigned : Result (Unit {0}) Refuse → State → State → List PlainAssignment → Type 0
-IsAssigned (Ok done) old new list =
-    (assigned_in old list ≡ Ok new.relvars) × (new ≡ record old { relvars = new.relvars })
-IsAssigned (Err refuse) old new list = IsRefusedFor refuse (assigned_in old list) × (new ≡ old)
+IsAssigned result old new list = IsChanged result old new (assigned_in old list)
 
 -- the state becomes what is meant; where that is refused, or memory is wanting, it stays
 abbrev pub IsDone : Result (Unit {0}) Refuse → State → State → Result State Refuse → Type 0

@@ -1,5 +1,6 @@
 -- How many steps assignments may take: a bound by numbers of rows and not of points.
 --     sources_cost      of the sources that are evaluated
+--     moves_cost_of      of the stored views that move with their operands
 --     looked_at_all      of the constraints that are looked at
 --     assignments_cost      of both
 --     rules_cost      of the database constraints that are looked at
@@ -9,11 +10,13 @@ use Rattle.point_core.specs.Faults.{OrFault}
 use Rattle.value_core.specs.Limits.{most_rows_in_all}
 use Rattle.value_core.specs.declared.constraint.Constraint.{Constraint}
 use Rattle.value_core.specs.declared.refuse.Refuse.{Refuse}
-use Rattle.value_core.specs.Values.{Row, Relation}
+use Rattle.value_core.specs.Values.{Name, Row, Relation}
 use Rattle.tree_core.specs.Items.{PlainAssignment}
 use Rattle.tree_core.specs.Relvars.{PlainRelvar, base, view, Entries, Rules, State, log}
 use Rattle.meaning_core.specs.Truths.{holds_in}
-use Rattle.algebra_core.specs.Costs.{cost_in, test_cost}
+use Rattle.tree_core.specs.Uses.{is_one_of}
+use Rattle.algebra_core.specs.Costs.{cost_in, cost_with, test_cost}
+use Rattle.stored_views.specs.Moves.{moves_cost}
 use Rattle.u_constraints.specs.Constraints.{broken}
 use Rattle.u_constraints.specs.Costs.{constraint_cost}
 use Rattle.assign_core.specs.Assignments.{seen_by, source_value, with_target, evaluated, after_assignments}
@@ -25,16 +28,28 @@ use Rattle.assign_core.specs.Breaches.{rows_of_all, rows_named, first_in}
 abbrev pub source_cost : Entries → Entries → PlainAssignment → ℕ
 source_cost old new a = cost_in (seen_by old new a.target) a.tree
 
+-- the target, where an earlier one of these already gave it a value
+abbrev pub renewed_among : List Name → Name → Option Name
+renewed_among done name = if is_one_of done name then Some name else None
+
+-- the same behind assignments to these: what is stored of a view does not serve where one of its operands has another value already
+abbrev pub later_cost : List Name → Entries → Entries → PlainAssignment → ℕ
+later_cost done old new a = cost_with (renewed_among done a.target) (seen_by old new a.target) a.tree
+
 -- the steps that follow a value; behind a fault nothing follows
 abbrev pub behind : OrFault Relation → (Relation → ℕ) → ℕ
 behind (Ok value) f = f value
 behind (Err fault) f = 0
 
+-- the steps of sources that are evaluated one after the other, behind assignments to these
+abbrev pub later_costs : List Name → Entries → Entries → List PlainAssignment → ℕ
+later_costs done old new [] = 0
+later_costs done old new (a ∷ rest) =
+    later_cost done old new a + behind (source_value old new a) (λ value. later_costs (a.target ∷ done) old (with_target new a.target value) rest)
+
 -- the steps of sources that are evaluated one after the other
 abbrev pub sources_cost : Entries → Entries → List PlainAssignment → ℕ
-sources_cost old new [] = 0
-sources_cost old new (a ∷ rest) =
-    source_cost old new a + behind (source_value old new a) (λ value. sources_cost old (with_target new a.target value) rest)
+sources_cost old new list = later_costs [] old new list
 
 -- ---- constraints
 
@@ -88,6 +103,16 @@ abbrev pub rules_cost_of : Rules → Result Entries Refuse → ℕ
 rules_cost_of rules (Ok new) = rules_cost new rules
 rules_cost_of rules (Err refuse) = 0
 
+-- ---- stored views
+
+-- the steps of the groups of stored views that the new values touch
+abbrev pub moves_cost_of : Entries → OrFault Entries → ℕ
+moves_cost_of old (Ok new) = moves_cost old new
+moves_cost_of old (Err fault) = 0
+
+-- ---- all of these
+
 -- the steps of assignments in a state
 abbrev pub cost_of_assignments : State → List PlainAssignment → ℕ
-cost_of_assignments s list = assignments_cost s.relvars list + rules_cost_of s.rules (after_assignments s.relvars list)
+cost_of_assignments s list =
+    assignments_cost s.relvars list + (moves_cost_of s.relvars (evaluated s.relvars s.relvars list) + rules_cost_of s.rules (after_assignments s.relvars list))

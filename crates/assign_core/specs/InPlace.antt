@@ -23,7 +23,7 @@ use Rattle.assign_core.specs.Assignments.{after_assignments, evaluated}
 use Rattle.assign_core.specs.Beside.{FitsBeside}
 use Rattle.assign_core.specs.Breaches.{first_rule_broken}
 use Rattle.assign_core.specs.Exchanges.{with_ready, IsReady}
-use Rattle.assign_core.specs.Logs.{IsRoomFor}
+use Rattle.assign_core.specs.Logs.{IsLogRoomFor}
 use Rattle.assign_core.specs.Targets.{entries_before}
 use Rattle.assign_core.specs.Turnovers.{renewed_at, MayExchange}
 
@@ -58,6 +58,6 @@ changed_in_place c entries = renewed_at c.at c.rows entries
 -- of assignments that are accepted as far as their own relvars: what stands ready for these, and for the logs
 abbrev pub IsPrepared : State → List PlainAssignment → Prepared → Type 0
 IsPrepared s list (Rows c) =
-    IsInPlace s c × (after_assignments s.relvars list ≡ Ok (changed_in_place c s.relvars)) × IsRoomFor (evaluated s.relvars s.relvars list) × (first_rule_broken (changed_in_place c s.relvars) s.rules ≡ None)
+    IsInPlace s c × (after_assignments s.relvars list ≡ Ok (changed_in_place c s.relvars)) × IsLogRoomFor (evaluated s.relvars s.relvars list) × (first_rule_broken (changed_in_place c s.relvars) s.rules ≡ None)
 IsPrepared s list (Values ready next) =
-    IsReady ready s.relvars × (after_assignments s.relvars list ≡ Ok (with_ready ready s.relvars)) × IsRoomFor (evaluated s.relvars s.relvars list) × AreNext s.accepted (with_ready ready s.relvars) next.items (with_ready ready s.relvars)
+    IsReady ready s.relvars × (after_assignments s.relvars list ≡ Ok (with_ready ready s.relvars)) × IsLogRoomFor (evaluated s.relvars s.relvars list) × AreNext s.accepted (with_ready ready s.relvars) next.items (with_ready ready s.relvars)

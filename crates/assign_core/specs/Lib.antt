@@ -14,8 +14,10 @@ pub mod InPlace
 pub mod Turnovers
 pub mod Insertions
 pub mod Items
+pub mod Keeping
 pub mod Leanings
 pub mod Logs
+pub mod Moving
 pub mod NewRows
 pub mod Parts
 pub mod Pendings
@@ -23,5 +25,7 @@ pub mod PlainChanges
 pub mod Portions
 pub mod Reductions
 pub mod Renewals
+pub mod Renewed
 pub mod Revisions
+pub mod Room
 pub mod Targets

@@ -6,7 +6,8 @@
 --     joined_cost, brought_cost      the steps that the rows of both take, and all steps
 --     IsBrought, IsFoundIf, StaysUnless, TakesNoneIf      answers
 --     IsToldOf, IsPaidFor      what is told of rows and what they take, wherever they are written
---     HasRoomFor, HasRoomIf      what is meant of rows is so beside logs too
+--     HasLogRoomFor, HasLogRoomIf      what is meant of rows is so beside logs too
+--     HasRoomFor, HasRoomIf      and beside logs and stored views
 use Rattle.std.specs.Prelude.{◌≡◌, ℕ, ◌+◌, ◌≤◌, Bool, true, false, List, length, Option, Some, Result, Ok, Err}
 use Rattle.base_core.specs.Outcomes.{then_give}
 use Rattle.point_core.specs.declared.fault.Place.{Place}
@@ -22,7 +23,8 @@ use Rattle.algebra_core.specs.Costs.{paid}
 use Rattle.assign_core.specs.Assignments.{with_target, of_values, unless_rule_broken, IsRefusedFor}
 use Rattle.assign_core.specs.Costs.{constraints_cost_of, rules_cost_of}
 use Rattle.assign_core.specs.Insertions.{united_in, united_cost}
-use Rattle.assign_core.specs.Logs.{unless_full}
+use Rattle.assign_core.specs.Logs.{unless_logs_full}
+use Rattle.assign_core.specs.Room.{unless_full}
 
 -- ---- what is meant
 
@@ -126,6 +128,19 @@ IsPaidFor way s name rows before after = (old : Relation) (at there : Place) (gi
 -- ---- beside logs
 
 -- what is meant of the rows is the same whether or not it is asked if the logs have room for them
+abbrev pub HasLogRoomFor : Arriving → State → Name → Relation → Type 0
+HasLogRoomFor way s name rows = (old : Relation) (at there : Place) (given : List Row) → IsGivenTo s name rows old given
+    → unless_logs_full (values_brought s.relvars way at there name old given) (brought_in s way at there name old given) ≡ brought_in s way at there name old given
+
+-- rows are brought, or refused, only where that is so
+abbrev pub HasLogRoomIf : Arriving → Result Bool Refuse → State → Name → Relation → Type 0
+HasLogRoomIf way (Ok true) s name rows = HasLogRoomFor way s name rows
+HasLogRoomIf way (Ok false) s name rows = Unit {0}
+HasLogRoomIf way (Err refuse) s name rows = HasLogRoomFor way s name rows
+
+-- ---- beside logs and stored views
+
+-- what is meant of the rows is the same whether or not it is asked if there is room for all rows then
 abbrev pub HasRoomFor : Arriving → State → Name → Relation → Type 0
 HasRoomFor way s name rows = (old : Relation) (at there : Place) (given : List Row) → IsGivenTo s name rows old given
     → unless_full (values_brought s.relvars way at there name old given) (brought_in s way at there name old given) ≡ brought_in s way at there name old given

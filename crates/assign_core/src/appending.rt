@@ -69,8 +69,8 @@ fn append_type(relvars: &mut Relvars, ordinal: OrdinalNames) -> Result<(), Memor
     Ok(())
 }
 
-// Appends a relvar or view of a new name.
-fn append_relvar(relvars: &mut Relvars, name: Name, relvar: Relvar) -> Result<(), Memory>
+/// Appends a relvar or view of a new name. For want of memory nothing changes.
+pub(crate) fn append_relvar(relvars: &mut Relvars, name: Name, relvar: Relvar) -> Result<(), Memory>
     requires { IsDistinct bytes_eq (keys relvars.old.list ++ name ∷ []) }
     ensures ok { OnOk result (relvars.new.list.entries ≡ relvars.old.list.entries ++ (name, relvar) ∷ []) }
     ensures err { OnErr result (relvars.new.list.entries ≡ relvars.old.list.entries) }

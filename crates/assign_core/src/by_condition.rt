@@ -5,6 +5,7 @@ ghost use Rattle.relation_core.specs.Answers.{Answers};
 ghost use Rattle.relation_core.specs.Hashes.{AreHashesOf};
 ghost use Rattle.tree_core.specs.Items.{read_assignment};
 ghost use Rattle.tree_core.specs.Relvars.{read_relvars, Entries};
+ghost use Rattle.meaning_core.specs.StoredRows.{AreStored};
 ghost use Rattle.meaning_core.specs.Updates.{IsTypedAssignment};
 ghost use Rattle.assign_core.specs.Assignments.{evaluated};
 ghost use Rattle.assign_core.specs.Costs.{sources_cost};
@@ -30,6 +31,7 @@ use relation_core::Hashes;
 use std::alloc::Global;
 use std::sync::ledger::Ledger;
 use tree_core::{Assignment, Relvars};
+use value_core::Relation;
 
 /// What the sources give all targets, or the first fault. A deletion by a condition looks at the rows that this affects, where they are
 /// few.
@@ -37,10 +39,12 @@ pub(crate) fn evaluate_change<'a, L: Ledger>(
     alloc: Global,
     list: &'a [Assignment],
     relvars: &'a Relvars,
+    stored: &[Option<Relation>],
     hashed: &'a Hashed,
     steps: &mut Steps<L>,
 ) -> Result<Pending<'a>, Stop>
     requires kept { IsKept (read_relvars relvars.now) }
+    requires stored { AreStored (read_relvars relvars.now).relvars stored.now }
     requires hashed { AreHashed hashed.now (read_relvars relvars.now).relvars }
     requires typed { All (λ a. IsTypedAssignment (read_relvars relvars.now) (read_assignment a)) list.now }
     ensures pending { IfOk result (IsPending relvars.now (evaluated (read_relvars relvars.now).relvars (read_relvars relvars.now).relvars (map read_assignment list.now))) }
@@ -49,8 +53,8 @@ pub(crate) fn evaluate_change<'a, L: Ledger>(
 {
     let none = no_positions(alloc);
     match find_deletion(list, &none) {
-        Some(deletion) => evaluate_deletion(alloc, deletion, list, relvars, hashed, steps),
-        None => evaluate_update(alloc, list, relvars, hashed, steps),
+        Some(deletion) => evaluate_deletion(alloc, deletion, list, relvars, stored, hashed, steps),
+        None => evaluate_update(alloc, list, relvars, stored, hashed, steps),
     }
 }
 
@@ -60,10 +64,12 @@ fn evaluate_deletion<'a, L: Ledger>(
     deletion: Deletion<'a, '_>,
     list: &[Assignment],
     relvars: &'a Relvars,
+    stored: &[Option<Relation>],
     hashed: &'a Hashed,
     steps: &mut Steps<L>,
 ) -> Result<Pending<'a>, Stop>
     requires kept { IsKept (read_relvars relvars.now) }
+    requires stored { AreStored (read_relvars relvars.now).relvars stored.now }
     requires hashed { AreHashed hashed.now (read_relvars relvars.now).relvars }
     requires deletion { IsAnyDeletion deletion }
     requires alone { map read_assignment list.now ≡ read_assignment deletion.assignment.now ∷ [] }
@@ -85,7 +91,7 @@ fn evaluate_deletion<'a, L: Ledger>(
             };
             pending_reduction(alloc, reduction, hashes, steps)
         }
-        None => evaluate_all(alloc, list, relvars, steps),
+        None => evaluate_all(alloc, list, relvars, stored, steps),
     }
 }
 
@@ -119,10 +125,12 @@ fn evaluate_update<'a, L: Ledger>(
     alloc: Global,
     list: &'a [Assignment],
     relvars: &'a Relvars,
+    stored: &[Option<Relation>],
     hashed: &'a Hashed,
     steps: &mut Steps<L>,
 ) -> Result<Pending<'a>, Stop>
     requires kept { IsKept (read_relvars relvars.now) }
+    requires stored { AreStored (read_relvars relvars.now).relvars stored.now }
     requires hashed { AreHashed hashed.now (read_relvars relvars.now).relvars }
     requires typed { All (λ a. IsTypedAssignment (read_relvars relvars.now) (read_assignment a)) list.now }
     ensures pending { IfOk result (IsPending relvars.now (evaluated (read_relvars relvars.now).relvars (read_relvars relvars.now).relvars (map read_assignment list.now))) }
@@ -131,8 +139,8 @@ fn evaluate_update<'a, L: Ledger>(
 {
     let none = no_positions(alloc);
     match find_revision(list, &none) {
-        Some(revision) => evaluate_revision(alloc, revision, list, relvars, hashed, steps),
-        None => evaluate_all(alloc, list, relvars, steps),
+        Some(revision) => evaluate_revision(alloc, revision, list, relvars, stored, hashed, steps),
+        None => evaluate_all(alloc, list, relvars, stored, steps),
     }
 }
 
@@ -142,10 +150,12 @@ fn evaluate_revision<'a, L: Ledger>(
     revision: Revision<'a, '_>,
     list: &[Assignment],
     relvars: &'a Relvars,
+    stored: &[Option<Relation>],
     hashed: &'a Hashed,
     steps: &mut Steps<L>,
 ) -> Result<Pending<'a>, Stop>
     requires kept { IsKept (read_relvars relvars.now) }
+    requires stored { AreStored (read_relvars relvars.now).relvars stored.now }
     requires hashed { AreHashed hashed.now (read_relvars relvars.now).relvars }
     requires revision { IsAnyRevision revision }
     requires alone { map read_assignment list.now ≡ read_assignment revision.assignment.now ∷ [] }
@@ -168,7 +178,7 @@ fn evaluate_revision<'a, L: Ledger>(
             };
             pending_renewal(alloc, renewal, steps)
         }
-        None => evaluate_all(alloc, list, relvars, steps),
+        None => evaluate_all(alloc, list, relvars, stored, steps),
     }
 }
 

@@ -6,6 +6,7 @@ ghost use Rattle.relation_core.specs.Hashes.{AreHashesOf};
 ghost use Rattle.scalar_core.specs.Answers.{Gives};
 ghost use Rattle.tree_core.specs.Items.{read_assignment};
 ghost use Rattle.tree_core.specs.Relvars.{read_relvars, Entries};
+ghost use Rattle.meaning_core.specs.StoredRows.{AreStored};
 ghost use Rattle.meaning_core.specs.Updates.{IsTypedAssignment};
 ghost use Rattle.meaning_core.specs.WellMade.{IsWellMade};
 ghost use Rattle.relvar_logs.specs.Changes.{AreChanges, changed};
@@ -37,10 +38,12 @@ pub(crate) fn evaluate_list<'a, L: Ledger>(
     alloc: Global,
     list: &'a [Assignment],
     relvars: &'a Relvars,
+    stored: &[Option<Relation>],
     hashed: &'a Hashed,
     steps: &mut Steps<L>,
 ) -> Result<Pending<'a>, Stop>
     requires kept { IsKept (read_relvars relvars.now) }
+    requires stored { AreStored (read_relvars relvars.now).relvars stored.now }
     requires hashed { AreHashed hashed.now (read_relvars relvars.now).relvars }
     requires typed { All (λ a. IsTypedAssignment (read_relvars relvars.now) (read_assignment a)) list.now }
     ensures pending { IfOk result (IsPending relvars.now (evaluated (read_relvars relvars.now).relvars (read_relvars relvars.now).relvars (map read_assignment list.now))) }
@@ -48,8 +51,8 @@ pub(crate) fn evaluate_list<'a, L: Ledger>(
     ensures cost { steps.new ≤ steps.old + sources_cost (read_relvars relvars.now).relvars (read_relvars relvars.now).relvars (map read_assignment list.now) }
 {
     match find_insertion(list) {
-        Some(insertion) => evaluate_insertion(alloc, insertion, relvars, hashed, steps),
-        None => evaluate_change(alloc, list, relvars, hashed, steps),
+        Some(insertion) => evaluate_insertion(alloc, insertion, relvars, stored, hashed, steps),
+        None => evaluate_change(alloc, list, relvars, stored, hashed, steps),
     }
 }
 
@@ -58,15 +61,17 @@ pub(crate) fn evaluate_all<'a, L: Ledger>(
     alloc: Global,
     list: &[Assignment],
     relvars: &'a Relvars,
+    stored: &[Option<Relation>],
     steps: &mut Steps<L>,
 ) -> Result<Pending<'a>, Stop>
     requires well_made { IsWellMade (read_relvars relvars.now) }
+    requires stored { AreStored (read_relvars relvars.now).relvars stored.now }
     requires typed { All (λ a. IsTypedAssignment (read_relvars relvars.now) (read_assignment a)) list.now }
     ensures pending { IfOk result (IsPending relvars.now (evaluated (read_relvars relvars.now).relvars (read_relvars relvars.now).relvars (map read_assignment list.now))) }
     ensures refused { IfErr result (λ stop. Answers {A = Entries} (Err stop) (evaluated (read_relvars relvars.now).relvars (read_relvars relvars.now).relvars (map read_assignment list.now))) }
     ensures cost { steps.new ≤ steps.old + sources_cost (read_relvars relvars.now).relvars (read_relvars relvars.now).relvars (map read_assignment list.now) }
 {
-    let changes = new_values(alloc, list, relvars, steps)?;
+    let changes = new_values(alloc, list, relvars, stored, steps)?;
     Ok(Pending::Values(changes))
 }
 
@@ -75,16 +80,18 @@ pub(crate) fn new_values<L: Ledger>(
     alloc: Global,
     list: &[Assignment],
     relvars: &Relvars,
+    stored: &[Option<Relation>],
     steps: &mut Steps<L>,
 ) -> Result<Vec<Option<Relation>>, Stop>
     requires well_made { IsWellMade (read_relvars relvars.now) }
+    requires stored { AreStored (read_relvars relvars.now).relvars stored.now }
     requires typed { All (λ a. IsTypedAssignment (read_relvars relvars.now) (read_assignment a)) list.now }
     ensures changes { IfOk result (λ v. AreChanges v.items (read_relvars relvars.now).relvars) }
     ensures value { Gives (λ v. changed v.items (read_relvars relvars.now).relvars) result (evaluated (read_relvars relvars.now).relvars (read_relvars relvars.now).relvars (map read_assignment list.now)) }
     ensures cost { steps.new ≤ steps.old + sources_cost (read_relvars relvars.now).relvars (read_relvars relvars.now).relvars (map read_assignment list.now) }
 {
     let mut changes = none_yet(alloc, relvars)?;
-    evaluate(alloc, list, relvars, &mut changes, steps)?;
+    evaluate(alloc, list, relvars, stored, &mut changes, steps)?;
     Ok(changes)
 }
 
@@ -93,10 +100,12 @@ fn evaluate_insertion<'a, L: Ledger>(
     alloc: Global,
     insertion: Insertion<'a>,
     relvars: &'a Relvars,
+    stored: &[Option<Relation>],
     hashed: &'a Hashed,
     steps: &mut Steps<L>,
 ) -> Result<Pending<'a>, Stop>
     requires kept { IsKept (read_relvars relvars.now) }
+    requires stored { AreStored (read_relvars relvars.now).relvars stored.now }
     requires hashed { AreHashed hashed.now (read_relvars relvars.now).relvars }
     requires insertion { IsInsertion insertion }
     requires typed { IsTypedAssignment (read_relvars relvars.now) (read_assignment insertion.assignment.now) }
@@ -105,7 +114,7 @@ fn evaluate_insertion<'a, L: Ledger>(
     ensures cost { steps.new ≤ steps.old + sources_cost (read_relvars relvars.now).relvars (read_relvars relvars.now).relvars (read_assignment insertion.entry.assignment.now ∷ []) }
 {
     let none = none_yet(alloc, relvars)?;
-    let (at, value, operand) = evaluate_operand(alloc, insertion, relvars, none.as_slice(), steps)?;
+    let (at, value, operand) = evaluate_operand(alloc, insertion, relvars, stored, none.as_slice(), steps)?;
     let target = Target {
         relvars,
         name: &insertion.assignment.target,

@@ -1,16 +1,17 @@
 // Rows that a base relvar gains beside its log, which gains them in place too.
-ghost use Rattle.std.specs.Prelude.{◌≡◌, ◌≤◌, ◌<◌, ◌<ℤ◌, ◌+ℤ◌, length, map, pos, None, IfSome};
+ghost use Rattle.std.specs.Prelude.{◌≡◌, ◌≤◌, ◌<◌, ◌<ℤ◌, ◌+ℤ◌, false, length, map, pos, None, IfSome};
 ghost use Rattle.point_core.specs.Whole.{greatest_whole};
 ghost use Rattle.value_core.specs.Limits.{most_rows_in_all};
 ghost use Rattle.tree_core.specs.Relvars.{read_entry, read_relvar, read_relvars, State};
 ghost use Rattle.meaning_core.specs.Logs.{AreInStep};
 ghost use Rattle.relvar_logs.specs.Changes.{turned_at};
+ghost use Rattle.stored_views.specs.Stored.{has_stored};
 ghost use Rattle.assign_core.specs.Breaches.{rows_of_all};
 ghost use Rattle.assign_core.specs.Databases.{IsKept};
 ghost use Rattle.assign_core.specs.Gained.{less, IsGain, MayGain};
 ghost use Rattle.assign_core.specs.Hashed.{AreHashed};
-ghost use Rattle.assign_core.specs.Logs.{counted_if, is_brought};
-ghost use Rattle.assign_core.specs.NewRows.{joining, HasRoomIf, IsFoundIf, IsPaidFor, IsToldOf, StaysUnless, TakesNoneIf};
+ghost use Rattle.assign_core.specs.Logs.{counted_if, is_brought, IsUnstored};
+ghost use Rattle.assign_core.specs.NewRows.{joining, HasLogRoomIf, IsFoundIf, IsPaidFor, IsToldOf, StaysUnless, TakesNoneIf};
 
 use crate::addition::no_rows;
 use crate::beside::fits_beside;
@@ -44,17 +45,19 @@ pub(crate) fn bring_logged<L: Ledger>(
     steps: &mut Steps<L>,
 ) -> Result<bool, Refuse>
     requires kept { IsKept (read_relvars relvars.old) }
+    requires unstored { has_stored (read_relvars relvars.old).relvars ≡ false }
     requires step { AreInStep (read_relvars relvars.old).accepted (read_relvars relvars.old).relvars }
     requires room { ((read_relvars relvars.old).accepted +ℤ pos 1) <ℤ greatest_whole }
     requires hashed { AreHashed hashed.old (read_relvars relvars.old).relvars }
     ensures brought { (mid : State) × IsToldOf (joining None) result (read_relvars relvars.old) mid target.now rows × (read_relvars relvars.new ≡ counted_if (is_brought result) mid) }
     ensures found { IsFoundIf result (read_relvars relvars.old) target.now rows.heading }
-    ensures beside { HasRoomIf (joining None) result (read_relvars relvars.old) target.now rows }
+    ensures beside { HasLogRoomIf (joining None) result (read_relvars relvars.old) target.now rows }
     ensures stays { StaysUnless result (read_relvars relvars.old) (read_relvars relvars.new) }
     ensures none { TakesNoneIf result steps.old steps.new }
     ensures kept { IsKept (read_relvars relvars.new) }
     ensures step { AreInStep (read_relvars relvars.new).accepted (read_relvars relvars.new).relvars }
     ensures hashed { AreHashed hashed.new (read_relvars relvars.new).relvars }
+    ensures unstored { IsUnstored (read_relvars relvars.old) (read_relvars relvars.new) }
     ensures cost { IsPaidFor (joining None) (read_relvars relvars.old) target.now rows steps.old steps.new }
 {
     let Some((at, value)) = place_to_gain(relvars, target, &rows) else {
@@ -98,18 +101,20 @@ fn bring_gained<L: Ledger>(
     steps: &mut Steps<L>,
 ) -> Result<bool, Refuse>
     requires kept { IsKept (read_relvars relvars.old) }
+    requires unstored { has_stored (read_relvars relvars.old).relvars ≡ false }
     requires step { AreInStep (read_relvars relvars.old).accepted (read_relvars relvars.old).relvars }
     requires room { ((read_relvars relvars.old).accepted +ℤ pos 1) <ℤ greatest_whole }
     requires hashed { AreHashed hashed.old (read_relvars relvars.old).relvars }
     requires gain { IsGain (read_relvars relvars.old) target.now rows gain.now }
     ensures brought { (mid : State) × IsToldOf (joining None) result (read_relvars relvars.old) mid target.now rows × (read_relvars relvars.new ≡ counted_if (is_brought result) mid) }
     ensures found { IsFoundIf result (read_relvars relvars.old) target.now rows.heading }
-    ensures beside { HasRoomIf (joining None) result (read_relvars relvars.old) target.now rows }
+    ensures beside { HasLogRoomIf (joining None) result (read_relvars relvars.old) target.now rows }
     ensures stays { StaysUnless result (read_relvars relvars.old) (read_relvars relvars.new) }
     ensures none { TakesNoneIf result steps.old steps.new }
     ensures kept { IsKept (read_relvars relvars.new) }
     ensures step { AreInStep (read_relvars relvars.new).accepted (read_relvars relvars.new).relvars }
     ensures hashed { AreHashed hashed.new (read_relvars relvars.new).relvars }
+    ensures unstored { IsUnstored (read_relvars relvars.old) (read_relvars relvars.new) }
     ensures cost { IsPaidFor (joining None) (read_relvars relvars.old) target.now rows steps.old steps.new }
 {
     match bring(

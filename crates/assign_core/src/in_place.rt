@@ -1,21 +1,23 @@
 // Assignments beside logs: rows of one base relvar are exchanged in place, as they are in its log; other values are made whole, and the
 // logs of their relvars with them.
-ghost use Rattle.std.specs.Prelude.{◌≡◌, ◌≤◌, ◌+◌, ◌<ℤ◌, ◌+ℤ◌, List, is_ok, map, pos, true, IfOk, IfErr, OnErr, OnOk, Ok};
+ghost use Rattle.std.specs.Prelude.{◌≡◌, ◌≤◌, ◌+◌, ◌<ℤ◌, ◌+ℤ◌, List, false, is_ok, map, pos, true, IfOk, IfErr, OnErr, OnOk, Ok};
 ghost use Rattle.std.specs.List.{All};
 ghost use Rattle.point_core.specs.Whole.{greatest_whole};
 ghost use Rattle.tree_core.specs.Items.{read_assignment, PlainAssignment};
 ghost use Rattle.tree_core.specs.Relvars.{read_relvars, Entries, State};
 ghost use Rattle.meaning_core.specs.Declarations.{counted};
 ghost use Rattle.meaning_core.specs.Logs.{AreInStep};
+ghost use Rattle.meaning_core.specs.StoredRows.{AreStored};
 ghost use Rattle.meaning_core.specs.Updates.{IsTypedAssignment};
 ghost use Rattle.change_rows.specs.Exchanges.{IsExchange};
 ghost use Rattle.relvar_logs.specs.Changes.{changed, AreChanges};
-ghost use Rattle.assign_core.specs.Assignments.{after_assignments, evaluated, IsAssigned, IsRefusedFor};
+ghost use Rattle.stored_views.specs.Stored.{has_stored};
+ghost use Rattle.assign_core.specs.Assignments.{after_assignments, evaluated, IsAssignedBeside, IsRefusedFor};
 ghost use Rattle.assign_core.specs.Costs.{assignments_cost, constraints_cost, constraints_cost_of, rules_cost_of};
 ghost use Rattle.assign_core.specs.Databases.{IsKept};
 ghost use Rattle.assign_core.specs.Hashed.{AreHashed};
 ghost use Rattle.assign_core.specs.InPlace.{changed_in_place, IsDiffering, IsInPlace, IsPrepared, MayGoInPlace};
-ghost use Rattle.assign_core.specs.Logs.{counted_if, unless_full};
+ghost use Rattle.assign_core.specs.Logs.{counted_if, unless_logs_full};
 ghost use Rattle.assign_core.specs.Targets.{entries_after, entries_before, IsTarget};
 ghost use Rattle.assign_core.specs.Turnovers.{IsKnown};
 
@@ -67,20 +69,22 @@ pub(crate) fn prepare_beside<L: Ledger>(
     alloc: Global,
     list: &[Assignment],
     relvars: &Relvars,
+    stored: &[Option<Relation>],
     hashed: &Hashed,
     steps: &mut Steps<L>,
 ) -> Result<Prepared, Refuse>
     requires kept { IsKept (read_relvars relvars.now) }
+    requires stored { AreStored (read_relvars relvars.now).relvars stored.now }
     requires step { AreInStep (read_relvars relvars.now).accepted (read_relvars relvars.now).relvars }
     requires room { ((read_relvars relvars.now).accepted +ℤ pos 1) <ℤ greatest_whole }
     requires hashed { AreHashed hashed.now (read_relvars relvars.now).relvars }
     requires typed { All (λ a. IsTypedAssignment (read_relvars relvars.now) (read_assignment a)) list.now }
     ensures prepared { IfOk result (IsPrepared (read_relvars relvars.now) (map read_assignment list.now)) }
     ensures refused { IfErr result (λ refuse. IsRefusedFor refuse
-        (unless_full (evaluated (read_relvars relvars.now).relvars (read_relvars relvars.now).relvars (map read_assignment list.now)) (after_assignments (read_relvars relvars.now).relvars (map read_assignment list.now)))) }
+        (unless_logs_full (evaluated (read_relvars relvars.now).relvars (read_relvars relvars.now).relvars (map read_assignment list.now)) (after_assignments (read_relvars relvars.now).relvars (map read_assignment list.now)))) }
     ensures cost { steps.new ≤ steps.old + assignments_cost (read_relvars relvars.now).relvars (map read_assignment list.now) }
 {
-    let pending = evaluate_list(alloc, list, relvars, hashed, steps)?;
+    let pending = evaluate_list(alloc, list, relvars, stored, hashed, steps)?;
     match pending {
         Pending::Rows(target, rows, known) => prepare_rows(alloc, target, rows, known, steps),
         Pending::Values(changes) => prepare_values(alloc, relvars, changes, steps),
@@ -100,7 +104,7 @@ fn prepare_values<L: Ledger>(
     requires changes { AreChanges changes.items (read_relvars relvars.now).relvars }
     ensures prepared { (list : List PlainAssignment) → evaluated (read_relvars relvars.now).relvars (read_relvars relvars.now).relvars list ≡ Ok (changed changes.items (read_relvars relvars.now).relvars) → IfOk result (IsPrepared (read_relvars relvars.now) list) }
     ensures refused { (list : List PlainAssignment) → evaluated (read_relvars relvars.now).relvars (read_relvars relvars.now).relvars list ≡ Ok (changed changes.items (read_relvars relvars.now).relvars) → IfErr result (λ refuse. IsRefusedFor refuse
-        (unless_full (evaluated (read_relvars relvars.now).relvars (read_relvars relvars.now).relvars list) (after_assignments (read_relvars relvars.now).relvars list))) }
+        (unless_logs_full (evaluated (read_relvars relvars.now).relvars (read_relvars relvars.now).relvars list) (after_assignments (read_relvars relvars.now).relvars list))) }
     ensures cost { steps.new ≤ steps.old + constraints_cost (changed changes.items (read_relvars relvars.now).relvars) }
 {
     let next = ready_logs(alloc, relvars, changes.as_slice())?;
@@ -124,7 +128,7 @@ fn prepare_rows<L: Ledger>(
     requires known { IsKnown target.value.now rows known }
     ensures prepared { (list : List PlainAssignment) → evaluated (entries_before target.entry) (entries_before target.entry) list ≡ entries_after target.entry rows → IfOk result (IsPrepared (read_relvars target.entry.relvars.now) list) }
     ensures refused { (list : List PlainAssignment) → evaluated (entries_before target.entry) (entries_before target.entry) list ≡ entries_after target.entry rows → IfErr result (λ refuse. IsRefusedFor refuse
-        (unless_full (evaluated (entries_before target.entry) (entries_before target.entry) list) (after_assignments (entries_before target.entry) list))) }
+        (unless_logs_full (evaluated (entries_before target.entry) (entries_before target.entry) list) (after_assignments (entries_before target.entry) list))) }
     ensures cost { steps.new ≤ steps.old + constraints_cost_of (entries_after target.entry rows) }
 {
     if may_go_in_place(target, &rows) {
@@ -163,7 +167,7 @@ fn prepare_in_place<L: Ledger>(
     requires may { MayGoInPlace target rows }
     ensures prepared { (list : List PlainAssignment) → evaluated (entries_before target.entry) (entries_before target.entry) list ≡ entries_after target.entry rows → IfOk result (IsPrepared (read_relvars target.entry.relvars.now) list) }
     ensures refused { (list : List PlainAssignment) → evaluated (entries_before target.entry) (entries_before target.entry) list ≡ entries_after target.entry rows → IfErr result (λ refuse. IsRefusedFor refuse
-        (unless_full (evaluated (entries_before target.entry) (entries_before target.entry) list) (after_assignments (entries_before target.entry) list))) }
+        (unless_logs_full (evaluated (entries_before target.entry) (entries_before target.entry) list) (after_assignments (entries_before target.entry) list))) }
     ensures cost { steps.new ≤ steps.old + constraints_cost_of (entries_after target.entry rows) }
 {
     let none = none_yet(alloc, target.relvars)?;
@@ -198,11 +202,12 @@ pub(crate) fn perform_prepared<L: Ledger>(
     steps: &mut Steps<L>,
 ) -> Result<(), Refuse>
     requires kept { IsKept (read_relvars relvars.old) }
+    requires unstored { has_stored (read_relvars relvars.old).relvars ≡ false }
     requires step { AreInStep (read_relvars relvars.old).accepted (read_relvars relvars.old).relvars }
     requires room { ((read_relvars relvars.old).accepted +ℤ pos 1) <ℤ greatest_whole }
     requires hashed { AreHashed hashed.old (read_relvars relvars.old).relvars }
     requires prepared { (list : List PlainAssignment) × IsPrepared (read_relvars relvars.old) list prepared }
-    ensures assigned { (list : List PlainAssignment) → IsPrepared (read_relvars relvars.old) list prepared → (mid : State) × IsAssigned result (read_relvars relvars.old) mid list × (read_relvars relvars.new ≡ counted_if (is_ok result) mid) }
+    ensures assigned { (list : List PlainAssignment) → IsPrepared (read_relvars relvars.old) list prepared → (mid : State) × IsAssignedBeside result (read_relvars relvars.old) mid list × (read_relvars relvars.new ≡ counted_if (is_ok result) mid) }
     ensures kept { IsKept (read_relvars relvars.new) }
     ensures step { AreInStep (read_relvars relvars.new).accepted (read_relvars relvars.new).relvars }
     ensures hashed { AreHashed hashed.new (read_relvars relvars.new).relvars }

@@ -8,6 +8,7 @@ ghost use Rattle.tree_core.specs.Items.{read_assignment};
 ghost use Rattle.tree_core.specs.Relvars.{read_relvars, base, Entries};
 ghost use Rattle.tree_core.specs.Trees.{using, read_tree};
 ghost use Rattle.meaning_core.specs.Names.{IsFirstAt};
+ghost use Rattle.meaning_core.specs.StoredRows.{AreStored};
 ghost use Rattle.meaning_core.specs.Updates.{IsTypedAssignment};
 ghost use Rattle.meaning_core.specs.WellMade.{IsWellMade};
 ghost use Rattle.assign_core.specs.Assignments.{evaluated};
@@ -99,10 +100,12 @@ pub(crate) fn evaluate_operand<'a, L: Ledger>(
     alloc: Global,
     insertion: Insertion<'_>,
     relvars: &'a Relvars,
+    stored: &[Option<Relation>],
     none: &[Option<Relation>],
     steps: &mut Steps<L>,
 ) -> Result<(usize, &'a Relation, Relation), Stop>
     requires well_made { IsWellMade (read_relvars relvars.now) }
+    requires stored { AreStored (read_relvars relvars.now).relvars stored.now }
     requires none { none.now ≡ replicate (length relvars.now.list.entries) None }
     requires insertion { IsInsertion insertion }
     requires typed { IsTypedAssignment (read_relvars relvars.now) (read_assignment insertion.assignment.now) }
@@ -117,7 +120,7 @@ pub(crate) fn evaluate_operand<'a, L: Ledger>(
     // A relation has few rows, and its heading is one.
     let _rows = value.rows();
     let (operand, target) = (insertion.operand, &assignment.target);
-    let operand = source(alloc, operand, target, relvars, none, steps)?;
+    let operand = source(alloc, operand, target, relvars, stored, none, steps)?;
     Ok((at, value, operand))
 }
 

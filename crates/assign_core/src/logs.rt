@@ -10,7 +10,7 @@ ghost use Rattle.relvar_logs.specs.Room.{are_each_few, rows_of_logs};
 ghost use Rattle.relvar_logs.specs.Turning.{AreNext};
 ghost use Rattle.assign_core.specs.Breaches.{rows_of_all};
 ghost use Rattle.assign_core.specs.Assignments.{IsRefusedFor};
-ghost use Rattle.assign_core.specs.Logs.{have_room, if_room};
+ghost use Rattle.assign_core.specs.Logs.{have_log_room, if_log_room};
 
 use crate::counting::are_few;
 use log_times::Log;
@@ -32,8 +32,8 @@ pub(crate) fn ready_logs(
     requires changes { AreChanges changes.now (read_relvars relvars.now).relvars }
     requires length { length changes.now ≡ length relvars.now.list.entries }
     ensures next { IfOk result (λ v. AreNext (read_relvars relvars.now).accepted (changed changes.now (read_relvars relvars.now).relvars) v.items (changed changes.now (read_relvars relvars.now).relvars)) }
-    ensures room { IfOk result (λ v. have_room (turned_logs (changed changes.now (read_relvars relvars.now).relvars)) ≡ true) }
-    ensures refused { IfErr result (λ refuse. IsRefusedFor refuse (if_room (changed changes.now (read_relvars relvars.now).relvars))) }
+    ensures room { IfOk result (λ v. have_log_room (turned_logs (changed changes.now (read_relvars relvars.now).relvars)) ≡ true) }
+    ensures refused { IfErr result (λ refuse. IsRefusedFor refuse (if_log_room (changed changes.now (read_relvars relvars.now).relvars))) }
 {
     let next = next_logs(alloc, relvars, changes)?;
     if logs_fit(relvars, changes, next.as_slice()) {

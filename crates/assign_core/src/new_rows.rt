@@ -1,5 +1,5 @@
 // Rows that come to a base relvar as they are, and not as the value of an expression.
-ghost use Rattle.std.specs.Prelude.{◌≡◌, ◌+◌, ◌≤◌, List, length, option_map, true, Ok, Err, IfErr, IfOk, IfSome};
+ghost use Rattle.std.specs.Prelude.{◌≡◌, ◌+◌, ◌≤◌, List, false, length, option_map, true, Ok, Err, IfErr, IfOk, IfSome};
 ghost use Rattle.std.specs.List.{All};
 ghost use Rattle.value_core.specs.declared.constraint.Constraint.{Constraint};
 ghost use Rattle.value_core.specs.Values.{most_rows, IsRelation};
@@ -8,6 +8,7 @@ ghost use Rattle.relation_core.specs.Hashes.{AreHashesOf};
 ghost use Rattle.tree_core.specs.Relvars.{base, read_relvars, Entries};
 ghost use Rattle.meaning_core.specs.Names.{IsFirstAt};
 ghost use Rattle.meaning_core.specs.Typing.{IsListIf};
+ghost use Rattle.stored_views.specs.Stored.{has_stored};
 ghost use Rattle.assign_core.specs.Arrivals.{entries_then, way_of, IsBaseFor, IsOneAtMost, IsReadied};
 ghost use Rattle.assign_core.specs.Assignments.{kept_or_refused, of_values, IsRefusedFor};
 ghost use Rattle.assign_core.specs.Costs.{constraints_cost, constraints_cost_of};
@@ -60,6 +61,7 @@ pub(crate) fn bring<L: Ledger>(
     steps: &mut Steps<L>,
 ) -> Result<bool, Refuse>
     requires kept { IsKept (read_relvars relvars.old) }
+    requires unstored { has_stored (read_relvars relvars.old).relvars ≡ false }
     requires hashed { AreHashed hashed.old (read_relvars relvars.old).relvars }
     requires listed { IsListFor rows.heading (way_of way) }
     ensures brought { IsToldOf (way_of way.entry) result (read_relvars relvars.old) (read_relvars relvars.new) target.now rows }

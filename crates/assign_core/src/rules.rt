@@ -9,6 +9,7 @@ ghost use Rattle.value_core.specs.Values.{Name as PlainName};
 ghost use Rattle.tree_core.specs.Relvars.{read_relvar, read_relvars, PlainRelvar};
 ghost use Rattle.tree_core.specs.Trees.{read_test, Test};
 ghost use Rattle.meaning_core.specs.Declarations.{with_rule};
+ghost use Rattle.meaning_core.specs.StoredRows.{AreStored};
 ghost use Rattle.meaning_core.specs.Truths.{holds_in};
 ghost use Rattle.meaning_core.specs.WellMade.{IsWellMade, IsTypedTestFor};
 ghost use Rattle.algebra_core.specs.Costs.{test_cost};
@@ -26,7 +27,7 @@ use point_core::{Code, Memory, Steps, Stop};
 use std::alloc::Global;
 use std::sync::ledger::Ledger;
 use tree_core::{RelTest, Relvar, Relvars, names_any, test_names_any};
-use value_core::{Name, Refuse};
+use value_core::{Name, Refuse, Relation};
 
 /// Of each database constraint, whether it names a relvar for which something stands ready, itself or through views.
 pub(crate) fn leaning(alloc: Global, relvars: &Relvars, ready: &Ready) -> Result<Vec<bool>, Memory>
@@ -125,17 +126,19 @@ fn is_view_of(relvar: &Relvar, names: &[&Name]) -> bool
 pub(crate) fn check_rules<L: Ledger>(
     alloc: Global,
     relvars: &Relvars,
+    stored: &[Option<Relation>],
     told: &[bool],
     steps: &mut Steps<L>,
 ) -> Result<(), Refuse>
     requires well_made { IsWellMade (read_relvars relvars.now) }
+    requires stored { AreStored (read_relvars relvars.now).relvars stored.now }
     requires others { DoOthersHold (read_relvars relvars.now).relvars told.now (read_relvars relvars.now).rules }
     ensures told { Tells result (first_rule_broken (read_relvars relvars.now).relvars (read_relvars relvars.now).rules) }
     ensures cost { steps.new ≤ steps.old + rules_cost (read_relvars relvars.now).relvars (read_relvars relvars.now).rules }
 {
     for at in 0..told.len() {
         let asked = told[at];
-        check_rule_at(alloc, relvars, at, asked, steps)?;
+        check_rule_at(alloc, relvars, stored, at, asked, steps)?;
     }
     Ok(())
 }
@@ -144,18 +147,20 @@ pub(crate) fn check_rules<L: Ledger>(
 fn check_rule_at<L: Ledger>(
     alloc: Global,
     relvars: &Relvars,
+    stored: &[Option<Relation>],
     at: usize,
     told: bool,
     steps: &mut Steps<L>,
 ) -> Result<(), Refuse>
     requires well_made { IsWellMade (read_relvars relvars.now) }
+    requires stored { AreStored (read_relvars relvars.now).relvars stored.now }
     requires within { at < length relvars.now.rules.entries }
     requires holds { (d : PlainName × Test) → told ≡ false → holds_in (read_relvars relvars.now).relvars (slice_index_or (read_relvars relvars.now).rules at d).1 ≡ true }
     ensures told { (d : PlainName × Test) → Tells result (first_rule_broken (read_relvars relvars.now).relvars (slice_index_or (read_relvars relvars.now).rules at d ∷ [])) }
     ensures cost { (d : PlainName × Test) → steps.new ≤ steps.old + test_cost (read_relvars relvars.now).relvars (slice_index_or (read_relvars relvars.now).rules at d).1 }
 {
     match relvars.rules.get_index(at) {
-        Some((name, test)) if told => check_rule(alloc, relvars, name, test, steps),
+        Some((name, test)) if told => check_rule(alloc, relvars, stored, name, test, steps),
         _ => Ok(()),
     }
 }
@@ -164,16 +169,18 @@ fn check_rule_at<L: Ledger>(
 fn check_rule<L: Ledger>(
     alloc: Global,
     relvars: &Relvars,
+    stored: &[Option<Relation>],
     name: &Name,
     test: &RelTest,
     steps: &mut Steps<L>,
 ) -> Result<(), Refuse>
     requires well_made { IsWellMade (read_relvars relvars.now) }
+    requires stored { AreStored (read_relvars relvars.now).relvars stored.now }
     requires typed { IsTypedTestFor (read_relvars relvars.now) (read_test test.now) }
     ensures told { Tells result (first_rule_broken (read_relvars relvars.now).relvars ((name.now, read_test test.now) ∷ [])) }
     ensures cost { steps.new ≤ steps.old + test_cost (read_relvars relvars.now).relvars (read_test test.now) }
 {
-    if holds(alloc, relvars, test, steps)? {
+    if holds(alloc, relvars, stored, test, steps)? {
         return Ok(());
     }
     Err(breach(alloc, name))
@@ -183,15 +190,17 @@ fn check_rule<L: Ledger>(
 fn holds<L: Ledger>(
     alloc: Global,
     relvars: &Relvars,
+    stored: &[Option<Relation>],
     test: &RelTest,
     steps: &mut Steps<L>,
 ) -> Result<bool, Memory>
     requires well_made { IsWellMade (read_relvars relvars.now) }
+    requires stored { AreStored (read_relvars relvars.now).relvars stored.now }
     requires typed { IsTypedTestFor (read_relvars relvars.now) (read_test test.now) }
     ensures value { IfOk result (λ b. b ≡ holds_in (read_relvars relvars.now).relvars (read_test test.now)) }
     ensures cost { steps.new ≤ steps.old + test_cost (read_relvars relvars.now).relvars (read_test test.now) }
 {
-    match evaluate(alloc, test, relvars, steps) {
+    match evaluate(alloc, test, relvars, stored, steps) {
         Ok(truth) => Ok(truth),
         Err(Stop::Fault(_)) => Ok(false),
         Err(Stop::Memory) => Err(Memory),
@@ -202,17 +211,19 @@ fn holds<L: Ledger>(
 pub(crate) fn add_rule<L: Ledger>(
     alloc: Global,
     relvars: &mut Relvars,
+    stored: &[Option<Relation>],
     name: Name,
     test: RelTest,
     steps: &mut Steps<L>,
 ) -> Result<(), Refuse>
     requires well_made { IsWellMade (read_relvars relvars.old) }
+    requires stored { AreStored (read_relvars relvars.old).relvars stored.now }
     requires more { IsWellMade (with_rule name (read_test test) (read_relvars relvars.old)) }
     ensures done { IsDone result (read_relvars relvars.old) (read_relvars relvars.new) (constrained (read_relvars relvars.old) name (read_test test)) }
     ensures list { relvars.new.list ≡ relvars.old.list }
     ensures cost { steps.new ≤ steps.old + test_cost (read_relvars relvars.old).relvars (read_test test) }
 {
-    let kept = holds(alloc, relvars, &test, steps);
+    let kept = holds(alloc, relvars, stored, &test, steps);
     match kept {
         Ok(truth) => append_if(relvars, truth, name, test),
         Err(memory) => Err(Refuse::from(memory)),

@@ -1,9 +1,10 @@
 // The exchange of what stands ready, which is taken back where it breaks a database constraint.
-ghost use Rattle.std.specs.Prelude.{◌≡◌, ◌+◌, ◌≤◌, map, IfOk, OnOk, Some};
+ghost use Rattle.std.specs.Prelude.{◌≡◌, ◌+◌, ◌≤◌, false, map, IfOk, OnOk, Some};
 ghost use Rattle.std.specs.List.{list_any};
 ghost use Rattle.tree_core.specs.Relvars.{read_entry, read_relvar, read_relvars};
 ghost use Rattle.meaning_core.specs.Names.{with_value};
 ghost use Rattle.relvar_logs.specs.Changes.{IsChange, IsSoAt};
+ghost use Rattle.stored_views.specs.Stored.{has_stored};
 ghost use Rattle.assign_core.specs.Costs.{rules_cost};
 ghost use Rattle.assign_core.specs.Databases.{IsKept, IsSettled};
 ghost use Rattle.assign_core.specs.Exchanges.{exchanged_by, place_of, with_ready, ArePrepared, AreValues, IsReady, IsValueFor, MayTurn};
@@ -22,7 +23,8 @@ use std::sync::ledger::Ledger;
 use tree_core::{Relvar, Relvars};
 use value_core::{Refuse, Relation};
 
-/// Exchanges what stands ready, unless a database constraint is broken afterwards: then, and for want of memory, nothing changes.
+/// Exchanges what stands ready, unless a database constraint is broken afterwards: then, and for want of memory, nothing changes. There are no
+/// stored views.
 /// Constraints that name no relvar that changes, themselves or through views, are not asked; where there are no others, rows go in place.
 pub(crate) fn settle<L: Ledger>(
     alloc: Global,
@@ -32,6 +34,7 @@ pub(crate) fn settle<L: Ledger>(
     steps: &mut Steps<L>,
 ) -> Result<(), Refuse>
     requires kept { IsKept (read_relvars relvars.old) }
+    requires unstored { has_stored (read_relvars relvars.old).relvars ≡ false }
     requires hashed { AreHashed hashed.old (read_relvars relvars.old).relvars }
     requires ready { IsReady ready (read_relvars relvars.old).relvars }
     ensures settled { IsSettled result (read_relvars relvars.old) (read_relvars relvars.new) (with_ready ready (read_relvars relvars.old).relvars) }
@@ -65,6 +68,7 @@ fn settle_and_check<L: Ledger>(
     steps: &mut Steps<L>,
 ) -> Result<(), Refuse>
     requires kept { IsKept (read_relvars relvars.old) }
+    requires unstored { has_stored (read_relvars relvars.old).relvars ≡ false }
     requires hashed { AreHashed hashed.old (read_relvars relvars.old).relvars }
     requires ready { IsReady ready (read_relvars relvars.old).relvars }
     requires others { DoOthersHold (with_ready ready (read_relvars relvars.old).relvars) told.now (read_relvars relvars.old).rules }
@@ -74,7 +78,7 @@ fn settle_and_check<L: Ledger>(
 {
     let mut changes = values(alloc, relvars, ready)?;
     exchange(relvars, hashed, alloc, &mut changes)?;
-    match check_rules(alloc, relvars, told, steps) {
+    match check_rules(alloc, relvars, &[], told, steps) {
         Ok(()) => Ok(()),
         Err(refuse) => {
             exchange_back(relvars, hashed, alloc, &mut changes);
@@ -83,8 +87,8 @@ fn settle_and_check<L: Ledger>(
     }
 }
 
-// Exchanges values, which wants no memory.
-fn exchange_back(
+/// Exchanges values, which wants no memory.
+pub(crate) fn exchange_back(
     relvars: &mut Relvars,
     hashed: &mut Hashed,
     alloc: Global,
@@ -105,8 +109,8 @@ fn exchange_back(
     }
 }
 
-// What stands ready as new values.
-fn values(alloc: Global, relvars: &Relvars, ready: Ready) -> Result<Vec<Change>, Memory>
+/// What stands ready as new values.
+pub(crate) fn values(alloc: Global, relvars: &Relvars, ready: Ready) -> Result<Vec<Change>, Memory>
     requires ready { IsReady ready (read_relvars relvars.now).relvars }
     ensures values { IfOk result (λ v. AreValues v.items) }
     ensures changes { IfOk result (λ v. ArePrepared v.items (read_relvars relvars.now).relvars) }

@@ -1,15 +1,14 @@
 -- Assignments that are performed change values of base relvars alone.
 --     all-typed      what typed items stand for is typed
---     assigned-rows      the relvars after typed assignments differ in their rows alone
-use Rattle.std.proofs.Common.{◌≡◌, Bool, true, false, cond, nat_le, List, [], ◌∷◌, ◌++◌, map, refl, sym, ap, ap₂, ◌∙◌, subst, Option, Some, None, Ok, Err}
+--     assigned-values      the relvars after assignments are what is meant of their values
+--     assigned-rows      after typed ones they differ in their rows alone
+use Rattle.std.proofs.Common.{◌≡◌, Bool, true, false, cond, List, [], ◌∷◌, ◌++◌, map, refl, sym, ap, ap₂, ◌∙◌, subst, Some, Ok, Err}
 use Rattle.std.specs.List.{All, AllByRecursion, IsDistinct}
 use Rattle.std.specs.Str.{bytes_eq}
 use Rattle.std.proofs.lemmas.List.Elements.{All-head, All-tail}
 use Rattle.base_core.proofs.ListLemmas.{All-In, bytes_eq-sym}
 use Rattle.base_core.proofs.MemberLemmas.{In-flat_map}
 use Rattle.point_core.specs.Faults.{OrFault}
-use Rattle.value_core.specs.Limits.{most_rows_in_all}
-use Rattle.value_core.specs.declared.refuse.Refuse.{Refuse}
 use Rattle.value_core.specs.declared.refuse.Refuse.TheVariants.{Plain, At}
 use Rattle.point_core.specs.declared.fault.Code.TheVariants.{E46}
 use Rattle.value_core.specs.Values.{Name, Relation}
@@ -29,10 +28,10 @@ use Rattle.update_core.proofs.EndingLemmas.{expanded-meant}
 use Rattle.update_core.proofs.TypedLemmas.{expanded-typed}
 use Rattle.since_during.specs.Joinable.{IsEndingForm}
 use Rattle.since_during.proofs.EndedLemmas.{ended-typed}
-use Rattle.assign_core.specs.Assignments.{seen_by, source_value, with_target, evaluated, unless_broken, kept_or_refused, of_values, assigned_in}
-use Rattle.assign_core.specs.Breaches.{rows_of_all, first_broken}
+use Rattle.assign_core.specs.Assignments.{seen_by, source_value, with_target, evaluated, kept_or_refused, of_values, unless_rule_broken, assigned_in}
 use Rattle.assign_core.specs.Items.{assignments_of}
-use Rattle.assign_core.proofs.LogLemmas.{assigned_after}
+use Rattle.assign_core.specs.Room.{have_room, unless_full}
+use Rattle.assign_core.proofs.GainedLemmas.{entries_are}
 use Rattle.row_typing_laws.proofs.Parts.{parts-of}
 use Rattle.dump_laws.proofs.ListLaws.{distinct-later}
 use Rattle.dump_laws.proofs.NamingLaws.{all-member}
@@ -109,24 +108,20 @@ module _ (s : State) (made : IsWellMade s) where
       subst (IsDistinct bytes_eq) (sym (names-bare s.relvars) ∙ (ap names_in (sym same) ∙ names-bare new)) names-differ in
       evaluated-rows rest (with_target new a.target parts.0) last (All-tail (IsTypedAssignment s) a rest are) (bare-given a.target parts.0 new differ headed ∙ same) parts.2
 
-  -- ---- what is admitted
+  -- ---- what is accepted
 
-  none-broken : (new last : Entries) (o : Option Refuse) → unless_broken new o ≡ Ok last → new ≡ last
-  none-broken new last None e = given-same new last (Ok new) refl e
-  none-broken new last (Some refuse) e = absurd (never-given last refuse (Err refuse) refl e)
-
-  few-kept : (new last : Entries) → kept_or_refused new ≡ Ok last → new ≡ last
-  few-kept new last e = by (nat_le (rows_of_all new) most_rows_in_all) e
+  -- where there is room, and no constraint is broken
+  accepted-as : (v : OrFault Entries) (last : Entries) → unless_full v (unless_rule_broken s.rules (of_values v)) ≡ Ok last → v ≡ Ok last
+  accepted-as (Err fault) last e = absurd (never-given last (At fault) (Err (At fault)) refl e)
+  accepted-as (Ok new) last e = ap Ok (by (have_room new) e)
     where
-      by : (b : Bool) → cond b (unless_broken new (first_broken new)) (Err (Plain E46)) ≡ Ok last → new ≡ last
-      by true f = none-broken new last (first_broken new) f
+      by : (b : Bool) → cond b (unless_rule_broken s.rules (kept_or_refused new)) (Err (Plain E46)) ≡ Ok last → new ≡ last
+      by true f = entries_are s.rules new last f
       by false f = absurd (never-given last (Plain E46) (Err (Plain E46)) refl f)
 
-  pub from-values : (r : OrFault Entries) (last : Entries) → of_values r ≡ Ok last → r ≡ Ok last
-  from-values (Ok new) last e = ap Ok (few-kept new last e)
-  from-values (Err fault) last e = absurd (never-given last (At fault) (Err (At fault)) refl e)
+  -- the relvars after assignments are those with the values of their sources
+  pub assigned-values : (list : List PlainAssignment) (last : Entries) → assigned_in s list ≡ Ok last → evaluated s.relvars s.relvars list ≡ Ok last
+  assigned-values list last e = accepted-as (evaluated s.relvars s.relvars list) last e
 
   pub assigned-rows : (list : List PlainAssignment) (last : Entries) → All (IsTypedAssignment s) list → assigned_in s list ≡ Ok last → bare_all last ≡ bare_all s.relvars
-  assigned-rows list last are e =
-      evaluated-rows list s.relvars last are refl
-      (from-values (evaluated s.relvars s.relvars list) last (assigned_after s list last e))
+  assigned-rows list last are e = evaluated-rows list s.relvars last are refl (assigned-values list last e)

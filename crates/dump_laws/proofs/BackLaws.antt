@@ -39,7 +39,7 @@ use Rattle.dump_laws.specs.Bringing.{Brings, CanBring}
 use Rattle.dump_laws.specs.Phases.{StandsEarly}
 use Rattle.dump_laws.proofs.DeclaredMade.{keeps-made}
 use Rattle.dump_laws.proofs.GivenBack.{given-back}
-use Rattle.dump_laws.proofs.RowsLaws.{with_rows, rows-bases, rows-logless, loadable-rows}
+use Rattle.dump_laws.proofs.RowsLaws.{with_rows, rows-bases, rows-logless, rows-unstored, loadable-rows}
 use Rattle.dump_laws.proofs.SecondRunLaws.{Behind, all-taken}
 use Rattle.dump_laws.proofs.SameLaws.{same-state}
 use Rattle.dump_laws.proofs.ScriptLaws.{script-is}
@@ -86,6 +86,7 @@ module _ (w : State) (ds : List Said) (made : IsMadeOf w ds) (sound : IsSound w)
         now = now;
         none = none;
         logless = rows-logless w ds made sound.0 sound.1 r h;
+        unstored = rows-unstored w ds made sound.0 sound.1 r h;
         sayable = subst (λ (os : List OrdinalNames). AreSayable os name v.heading) (sym types) (written name v c (in-first name v c (at-in full i (name, base v c) stands)));
       } in
       let script : List OrdinalNames → List ℕ = λ os. insert_script os name v.heading (take size (drop n v.rows)) in
@@ -102,8 +103,8 @@ pub made-back : (w : State) (texts : List SourceText) (ds : List Said) (x : List
     → script_of texts w ≡ Some x → GivesBack x w
 made-back w texts ds x said made sound none e =
     let can : (r : State) → StandsEarly (filter is_early_said ds) r → CanBring w.ordinals (with_rows w r) = can-bring w ds made sound (state-written w texts ds said made sound.0.well_made) in
-    given-back w texts x (script-is (statements_of texts w) x e) (Behind text-step keeps-made none-made w texts ds said made sound.0 sound.1 none can)
-    (λ r left h. (same-state w ds made sound.0.well_made none r h.0, h.1)) (all-taken text-step keeps-made none-made w texts ds said made sound.0 sound.1 none can)
+    given-back w texts x (script-is (statements_of texts w) x e) (Behind text-step keeps-made none-made w texts ds said made sound.0 sound.1 sound.2 none can)
+    (λ r left h. (same-state w ds made sound.0.well_made none r h.0, h.1)) (all-taken text-step keeps-made none-made w texts ds said made sound.0 sound.1 sound.2 none can)
 
 -- the run whose state is dumped
 module _ (bytes : List ℕ) (step : Step) (texts : List SourceText) (few : length bytes ≤ most_bytes) (after : IsAfter (statements_within bytes) (length (statements_within bytes)) step)

@@ -18,20 +18,20 @@ use Rattle.value_core.specs.declared.list.OrdinalNames.{OrdinalNames}
 use Rattle.value_core.specs.Limits.{most_relvars}
 use Rattle.value_core.specs.Values.{Name}
 use Rattle.tree_core.specs.declared.declaration.LogData.{LogData}
-use Rattle.tree_core.specs.Relvars.{State, PlainRelvar, base, view, Entries, relvar_named, heading_if, derived}
-use Rattle.tree_core.specs.Trees.{Test}
+use Rattle.tree_core.specs.Relvars.{State, PlainKind, PlainRelvar, base, view, Entries, relvar_named, heading_if, derived, stored}
+use Rattle.tree_core.specs.Trees.{Tree, Test}
 use Rattle.tree_core.specs.Uses.{is_one_of}
 use Rattle.dump_core.specs.Texts.{SourceText, forgotten}
 use Rattle.meaning_core.specs.Declarations.{counted, group, without_group, without_rule, with_log}
 use Rattle.meaning_core.specs.Logs.{is_log, new_log, turned_logs}
 use Rattle.meaning_core.specs.Typing.{IsTypedTree, IsTypedTest}
-use Rattle.meaning_core.specs.WellMade.{sizes_of, headings_of, AreRelvars, IsWellMade}
+use Rattle.meaning_core.specs.WellMade.{sizes_of, headings_of, AreRelvars, IsWellMade, IsTypedFor}
 use Rattle.meaning_core.proofs.AcceptedLemmas.{bare-turned, made-turned}
 use Rattle.meaning_core.proofs.MadeLemmas.{same_name}
 use Rattle.meaning_core.proofs.RowlessLemmas.{bare_all, bare_entry}
 use Rattle.declaration_typing.specs.Drops.{relvars_use, rules_use, is_used, is_of_history}
 use Rattle.declaration_typing.specs.Names.{is_rule, is_taken}
-use Rattle.typing_laws.specs.Saying.{Said, said_ordinal, said_base, said_view, said_history, said_rule, names_said, entries_said, said_names_any, IsFree, HasRoom, with_said}
+use Rattle.typing_laws.specs.Saying.{Said, said_ordinal, said_base, said_view, said_stored, said_history, said_rule, names_said, entries_said, said_names_any, IsFree, HasRoom, with_said}
 use Rattle.dump_laws.specs.Kept.{key_said, IsTextOf, AreTexts, IsSmall, IsListedAs}
 use Rattle.dump_laws.proofs.FollowingLaws.{IsFollowed, IsTypedSaid, said-typed, said-stays, small-stays, follows-new, follows-left, follows-rows, none_of_them, none-new}
 use Rattle.dump_laws.proofs.GoneLaws.{IsGone, any-own, relvar-gone, rule-gone}
@@ -74,13 +74,18 @@ behind : (sizes : List ℕ) (before es more : Entries) → AreRelvars sizes befo
 behind sizes before [] more h = subst (λ (l : Entries). AreRelvars sizes l more) (sym (append-nil before)) h
 behind sizes before (e ∷ es) more h = subst (λ (l : Entries). AreRelvars sizes l more) (append_assoc before (e ∷ []) es) (behind sizes (before ++ e ∷ []) es more h.1)
 
--- the expression of what is newly said is typed
+-- the expression of a view behind the others is typed
+view-own : (w : State) (name : Name) (t : Tree) (kind : PlainKind) → AreRelvars (sizes_of (w.ordinals ++ [])) [] (w.relvars ++ (name, view t kind) ∷ []) → IsTypedFor w t
+view-own w name t kind are =
+    subst (λ (l : List OrdinalNames). IsTypedTree (sizes_of l) (headings_of w.relvars) t) (append-nil w.ordinals)
+    (behind (sizes_of (w.ordinals ++ [])) [] w.relvars ((name, view t kind) ∷ []) are).0.0
+
+-- and that of what is newly said
 typed-own : (w : State) (d : Said) → IsWellMade (with_said w d) → IsTypedSaid w d
 typed-own w (said_ordinal name names) then = tt
 typed-own w (said_base name heading typed) then = tt
-typed-own w (said_view name t) then =
-    subst (λ (l : List OrdinalNames). IsTypedTree (sizes_of l) (headings_of w.relvars) t) (append-nil w.ordinals)
-    (behind (sizes_of (w.ordinals ++ [])) [] w.relvars ((name, view t derived) ∷ []) then.relvars).0.0
+typed-own w (said_view name t) then = view-own w name t derived then.relvars
+typed-own w (said_stored name t) then = view-own w name t stored then.relvars
 typed-own w (said_history h) then = tt
 typed-own w (said_rule name t) then =
     let sizes : List ℕ = sizes_of (w.ordinals ++ []) in
@@ -98,6 +103,8 @@ unnamed-own some w (said_base name heading typed) new then =
     constraints-new some w.relvars name r typed new (behind (sizes_of (w.ordinals ++ [])) [] w.relvars ((name, r) ∷ []) then.relvars).0.1
 unnamed-own some w (said_view name t) new then =
     typed-names some (sizes_of w.ordinals) (headings_of w.relvars) (new-clear some w.relvars new) t (typed-own w (said_view name t) then)
+unnamed-own some w (said_stored name t) new then =
+    typed-names some (sizes_of w.ordinals) (headings_of w.relvars) (new-clear some w.relvars new) t (typed-own w (said_stored name t) then)
 unnamed-own some w (said_history h) new then = refl
 unnamed-own some w (said_rule name t) new then =
     typed-test-names some (sizes_of w.ordinals) (headings_of w.relvars) (new-clear some w.relvars new) t (typed-own w (said_rule name t) then)
@@ -106,6 +113,7 @@ small-own : (w : State) (d : Said) → HasRoom w d → IsSmall w d
 small-own w (said_ordinal name names) room = tt
 small-own w (said_base name heading typed) room = tt
 small-own w (said_view name t) room = room.1
+small-own w (said_stored name t) room = room.1
 small-own w (said_history h) room = tt
 small-own w (said_rule name t) room = room.0
 
@@ -113,6 +121,7 @@ few-more : (w : State) (d : Said) → length w.relvars ≤ most_relvars → HasR
 few-more w (said_ordinal name names) few room = subst (λ (l : Entries). length l ≤ most_relvars) (sym (append-nil w.relvars)) few
 few-more w (said_base name heading typed) few room = let e = length-append w.relvars (entries_said (said_base name heading typed)) in omega (arith, e, room)
 few-more w (said_view name t) few room = let e = length-append w.relvars (entries_said (said_view name t)) in let less = room.0 in omega (arith, e, less)
+few-more w (said_stored name t) few room = let e = length-append w.relvars (entries_said (said_stored name t)) in let less = room.0 in omega (arith, e, less)
 few-more w (said_history h) few room = let e = length-append w.relvars (entries_said (said_history h)) in omega (arith, e, room)
 few-more w (said_rule name t) few room = subst (λ (l : Entries). length l ≤ most_relvars) (sym (append-nil w.relvars)) few
 

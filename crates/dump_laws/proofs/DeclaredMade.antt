@@ -10,14 +10,15 @@ use Rattle.since_during.proofs.HistoryMade.{history-made}
 use Rattle.utd_syntax.specs.Plain.{StatementP}
 use Rattle.type_check.specs.Checks.{Plain, checked, IsTypedPlain}
 use Rattle.type_check.proofs.CheckLemmas.{checked-typed}
-use Rattle.typing_laws.specs.Saying.{Said, said_ordinal, said_base, said_view, said_history, said_rule, plain_of, moved_said, with_said}
-use Rattle.typing_laws.proofs.SaidLaws.{with-ordinal, with-base, with-view, with-history, with-said-rule}
+use Rattle.typing_laws.specs.Saying.{Said, said_ordinal, said_base, said_view, said_stored, said_history, said_rule, plain_of, moved_said, with_said}
+use Rattle.typing_laws.proofs.SaidLaws.{with-ordinal, with-base, with-view, with-stored, with-history, with-said-rule}
 use Rattle.dump_laws.proofs.PhaseLaws.{KeepsMade}
 
 typed-made : (r : State) (d : Said) → IsWellMade r → IsTypedPlain r (plain_of d) → IsWellMade (with_said r d)
 typed-made r (said_ordinal name names) made is = subst IsWellMade (with-ordinal r name names) is
 typed-made r (said_base name heading typed) made is = subst IsWellMade (with-base r name heading typed) is
 typed-made r (said_view name t) made is = subst IsWellMade (with-view r name t) is
+typed-made r (said_stored name t) made is = subst IsWellMade (with-stored r name t) is.0
 typed-made r (said_history h) made is = subst IsWellMade (with-history r h) (history-made r h made is)
 typed-made r (said_rule name t) made is = subst IsWellMade (with-said-rule r name t) is.0
 

@@ -7,7 +7,7 @@ use Rattle.std.proofs.Common.{◌≡◌, ℕ, Bool, true, false, cond, List, [],
 use Rattle.std.specs.List.{filter}
 use Rattle.std.specs.Str.{bytes_eq}
 use Rattle.value_core.specs.Values.{Name}
-use Rattle.tree_core.specs.Relvars.{State, PlainRelvar, base, view, Entries, relvar_named, heading_if, constraints_if, history_if, log, derived, stored, of_history, PlainKind}
+use Rattle.tree_core.specs.Relvars.{State, PlainRelvar, base, view, Entries, relvar_named, heading_if, constraints_if, log, derived, stored, of_history, PlainKind}
 use Rattle.tree_core.specs.Trees.{Tree}
 use Rattle.meaning_core.proofs.RowlessLemmas.{bare, bare_all}
 use Rattle.meaning_laws.specs.Likeness.{LikeIf, Alike}

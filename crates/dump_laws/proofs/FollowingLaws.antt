@@ -2,15 +2,15 @@
 --     IsFollowed      so it is of two well made states
 --     said-stays, small-stays      what is said that names none of some is said there, and is as small
 --     follows-new, follows-left, follows-rows      the state with what is said, without a relvar or view, and with other rows
-use Rattle.std.proofs.Common.{◌≡◌, inl, inr, ℕ, ◌≤◌, Bool, true, false, not, List, [], ◌∷◌, ◌++◌, refl, sym, ap, ◌∙◌, subst, append-nil, None}
+use Rattle.std.proofs.Common.{◌≡◌, inl, inr, ℕ, ◌≤◌, Bool, true, false, not, List, [], ◌∷◌, ◌++◌, refl, sym, ap, ◌∙◌, subst, append-nil}
 use Rattle.std.specs.Prelude.{◌&&◌}
 use Rattle.std.proofs.lemmas.Bool.{true≢false}
 use Rattle.base_core.proofs.SetLemmas.{In}
 use Rattle.value_core.specs.Limits.{most_nodes}
 use Rattle.value_core.specs.Values.{Name}
-use Rattle.tree_core.specs.Relvars.{State, PlainRelvar, base, view, Entries, relvar_named, log, derived}
+use Rattle.tree_core.specs.Relvars.{State, PlainKind, PlainRelvar, base, view, Entries, relvar_named, log, derived, stored}
 use Rattle.tree_core.specs.Trees.{Tree, Test}
-use Rattle.tree_core.specs.Uses.{relvar_names_any}
+use Rattle.tree_core.specs.Uses.{names_any, relvar_names_any}
 use Rattle.meaning_core.specs.Typing.{IsTypedTree}
 use Rattle.meaning_core.specs.WellMade.{sizes_of, headings_of, IsRelvar, IsWellMade, IsTypedFor, IsTypedTestFor}
 use Rattle.meaning_core.proofs.ElsewhereLemmas.{view_names, IsApart, left, left-append, left-gone, named-left, typed-names}
@@ -20,7 +20,7 @@ use Rattle.meaning_laws.specs.Likeness.{Alike}
 use Rattle.meaning_laws.proofs.SameMoved.{tree-same, test-same}
 use Rattle.declaration_typing.specs.Drops.{relvars_use}
 use Rattle.declaration_typing.specs.Nodes.{nodes_of, test_nodes}
-use Rattle.typing_laws.specs.Saying.{Said, said_ordinal, said_base, said_view, said_history, said_rule, said_names_any}
+use Rattle.typing_laws.specs.Saying.{Said, said_ordinal, said_base, said_view, said_stored, said_history, said_rule, said_names_any, entries_said}
 use Rattle.typing_laws.proofs.LogsAlike.{logs-alike}
 use Rattle.typing_laws.proofs.NodesAlike.{nodes-alike, test-nodes-alike}
 use Rattle.typing_laws.proofs.SaysElsewhere.{says-stays}
@@ -45,25 +45,31 @@ abbrev pub IsTypedSaid : State → Said → Type 0
 IsTypedSaid w (said_ordinal name names) = Unit {0}
 IsTypedSaid w (said_base name heading typed) = Unit {0}
 IsTypedSaid w (said_view name t) = IsTypedFor w t
+IsTypedSaid w (said_stored name t) = IsTypedFor w t
 IsTypedSaid w (said_history made) = Unit {0}
 IsTypedSaid w (said_rule name t) = IsTypedTestFor w t
 
-view-typed : (sizes : List ℕ) (front back : Entries) (x : Name × PlainRelvar) (name : Name) (t : Tree) → IsRelvar sizes front x.0 x.1 → (name, view t derived) ≡ emptied x
+view-typed : (sizes : List ℕ) (front back : Entries) (x : Name × PlainRelvar) (name : Name) (t : Tree) (kind : PlainKind) → IsRelvar sizes front x.0 x.1 → (name, view t kind) ≡ emptied x
     → (es : Entries) → es ≡ front ++ back → IsTypedTree sizes (headings_of es) t
-view-typed sizes front back (own, base value cs) name t is e es whole = absurd (subst (λ (y : Name × PlainRelvar). IsView y.1) e tt)
-view-typed sizes front back (own, log o k last w) name t is e es whole = absurd (subst (λ (y : Name × PlainRelvar). IsView y.1) e tt)
-view-typed sizes front back (own, view u kind) name t is e es whole =
+view-typed sizes front back (own, base value cs) name t kind is e es whole = absurd (subst (λ (y : Name × PlainRelvar). IsView y.1) e tt)
+view-typed sizes front back (own, log o k last w) name t kind is e es whole = absurd (subst (λ (y : Name × PlainRelvar). IsView y.1) e tt)
+view-typed sizes front back (own, view u other) name t kind is e es whole =
     let same : u ≡ t = ap (λ (y : Name × PlainRelvar). tree_in t y.1) (sym e) in
     subst (λ (l : Entries). IsTypedTree sizes (headings_of l) t) (sym whole)
     (subst (λ (v : Tree). IsTypedTree sizes (headings_of (front ++ back)) v) same (tree-behind sizes front back u is.0))
 
+-- that of a view which is said
+typed-in : (w : State) (ds : List Said) → IsListedAs w ds → IsWellMade w → (d : Said) (name : Name) (t : Tree) (kind : PlainKind) → In d ds → In (name, view t kind) (entries_said d) → IsTypedFor w t
+typed-in w ds listed made d name t kind i j =
+    let here = entry-in w ds listed (name, view t kind) d i j in
+    let place = placed-in (sizes_of w.ordinals) [] w.relvars here.0 made.relvars here.1 in
+    view-typed (sizes_of w.ordinals) place.0 place.1 here.0 name t kind place.3 here.2 w.relvars place.2
+
 pub said-typed : (w : State) (ds : List Said) → IsListedAs w ds → IsWellMade w → (d : Said) → In d ds → IsTypedSaid w d
 said-typed w ds listed made (said_ordinal name names) i = tt
 said-typed w ds listed made (said_base name heading typed) i = tt
-said-typed w ds listed made (said_view name t) i =
-    let here = entry-in w ds listed (name, view t derived) (said_view name t) i (inl refl) in
-    let place = placed-in (sizes_of w.ordinals) [] w.relvars here.0 made.relvars here.1 in
-    view-typed (sizes_of w.ordinals) place.0 place.1 here.0 name t place.3 here.2 w.relvars place.2
+said-typed w ds listed made (said_view name t) i = typed-in w ds listed made (said_view name t) name t derived i (inl refl)
+said-typed w ds listed made (said_stored name t) i = typed-in w ds listed made (said_stored name t) name t stored i (inl refl)
 said-typed w ds listed made (said_history h) i = tt
 said-typed w ds listed made (said_rule name t) i =
     all-member (λ (r : Name × Test). IsTypedTestFor w r.1) w.rules (name, t) made.rules (rule-in w ds listed (name, t) (said_rule name t) i (inl refl))
@@ -74,14 +80,18 @@ module _ (some : Name → Bool) (w r : State) (follows : IsFollowed some w r) wh
       says-stays some (record w { ordinals = types }) (record r { ordinals = types }) [] follows.alike (sym (append-nil types))
       (logs-alike some (sizes_of w.ordinals) (sizes_of r.ordinals) w.relvars r.relvars follows.made.relvars follows.then.relvars follows.alike follows.apart) tree d none says
 
-  pub small-stays : (d : Said) → said_names_any some d ≡ false → IsTypedSaid w d → IsSmall w d → IsSmall r d
-  small-stays (said_ordinal name names) none typed small = tt
-  small-stays (said_base name heading cs) none typed small = tt
-  small-stays (said_view name t) none typed small =
+  tree-stays : (t : Tree) → names_any some t ≡ false → IsTypedFor w t → nodes_of w.relvars t ≤ most_nodes → nodes_of r.relvars t ≤ most_nodes
+  tree-stays t none typed small =
       subst (λ (n : ℕ). n ≤ most_nodes)
       (nodes-alike some (sizes_of w.ordinals) (sizes_of r.ordinals) w.relvars r.relvars follows.made.relvars follows.then.relvars follows.alike follows.apart (λ p. p)
       (sizes_of w.ordinals) t none typed
       ∙ ap (nodes_of r.relvars) (tree-same t)) small
+
+  pub small-stays : (d : Said) → said_names_any some d ≡ false → IsTypedSaid w d → IsSmall w d → IsSmall r d
+  small-stays (said_ordinal name names) none typed small = tt
+  small-stays (said_base name heading cs) none typed small = tt
+  small-stays (said_view name t) none typed small = tree-stays t none typed small
+  small-stays (said_stored name t) none typed small = tree-stays t none typed small
   small-stays (said_history h) none typed small = tt
   small-stays (said_rule name t) none typed small =
       subst (λ (n : ℕ). n ≤ most_nodes)

@@ -21,7 +21,7 @@ use Rattle.meaning_core.specs.Logs.{is_log}
 use Rattle.meaning_core.proofs.MadeLemmas.{own_name, same_name}
 use Rattle.declaration_typing.specs.Drops.{is_in_history, is_of_history}
 use Rattle.declaration_typing.specs.Names.{is_rule}
-use Rattle.typing_laws.specs.Saying.{Said, said_ordinal, said_base, said_view, said_history, said_rule, names_said, entries_said, ordinals_said, rules_said}
+use Rattle.typing_laws.specs.Saying.{Said, said_ordinal, said_base, said_view, said_stored, said_history, said_rule, names_said, entries_said, ordinals_said, rules_said}
 use Rattle.dump_laws.specs.Kept.{key_said, IsListedAs}
 use Rattle.part_laws.specs.Parts.{without_rows}
 use Rattle.dump_laws.proofs.ListLaws.{split-at, given-middle, distinct-apart, distinct-later, distinct-without}
@@ -124,6 +124,13 @@ module _ (w : State) (ds : List Said) (made : IsListedAs w ds) where
         (sym same, λ n. ap (λ (o : Option (Name × Name)). is_one_of (with_history name o) n) none ∙ ap (λ (m : Name). is_one_of (m ∷ []) n) same, refl, refl)
     | inr k ↦ absurd k
   ]
+  gone-names name r (said_stored own t) e alone i j = elim j [
+    | inl k ↦
+        let same : name ≡ own = ap (λ (x : Name × PlainRelvar). x.0) k in
+        let none : history_if (relvar_named w.relvars name) ≡ None = ap history_if e ∙ view-history r t stored (ap (λ (x : Name × PlainRelvar). x.1) k) in
+        (sym same, λ n. ap (λ (o : Option (Name × Name)). is_one_of (with_history name o) n) none ∙ ap (λ (m : Name). is_one_of (m ∷ []) n) same, refl, refl)
+    | inr k ↦ absurd k
+  ]
   gone-names name r (said_history h) e alone i j = elim j [
     | inl k ↦
         let same : name ≡ h.since = ap (λ (x : Name × PlainRelvar). x.0) k in
@@ -168,6 +175,7 @@ module _ (w : State) (ds : List Said) (made : IsListedAs w ds) where
   rule-names name r (said_ordinal own names) q j = absurd j
   rule-names name r (said_base own heading typed) q j = absurd j
   rule-names name r (said_view own t) q j = absurd j
+  rule-names name r (said_stored own t) q j = absurd j
   rule-names name r (said_history h) q j = absurd j
   rule-names name r (said_rule own t) q j = elim j [
     | inl k ↦

@@ -14,6 +14,7 @@ use Rattle.value_core.proofs.RelationLemmas.{sorted_from_ascending}
 use Rattle.relation_core.proofs.FilterLemmas.{rows_ascend}
 use Rattle.tree_core.specs.Relvars.{base, Entries, State, relvar_named}
 use Rattle.meaning_core.specs.Logs.{has_log}
+use Rattle.stored_views.specs.Stored.{has_stored}
 use Rattle.dump_core.specs.Inserts.{insert_script}
 use Rattle.dump_core.specs.Texts.{SourceText}
 use Rattle.relation_typing.specs.Attributes.{is_name}
@@ -42,7 +43,7 @@ use Rattle.part_laws.proofs.RowLemmas.{Ascends-take}
 use Rattle.part_laws.proofs.StepLemmas.{brought-next}
 use Rattle.part_laws.proofs.ThroughLemmas.{next-all, next-some}
 use Rattle.dump_laws.specs.Loads.{IsLoadFor, Loads}
-use Rattle.dump_laws.proofs.LoggedLaws.{loaded-logless}
+use Rattle.dump_laws.proofs.LoadedLaws.{loaded-logless, loaded-unstored}
 
 -- ---- one insertion
 
@@ -61,12 +62,13 @@ insertion-leaves types name heading rows tree plain = ap keeping_of plain.is.1
 -- the relvars that the rows make are those of the next state
 insertion-answered : (r : State) (name : Name) (heading : Heading) (rows : List Row) (tree : StatementP) (old : Relation) (c : List Constraint) (new : Entries)
     → IsPlainInsertion r.ordinals Adding name heading rows tree → is_name name ≡ true → relvar_named r.relvars name ≡ Some (base old c) → old.heading ≡ heading → IsRelation old
-    → has_log r.relvars ≡ false → ((at there : Place) → brought_in r (joining None) at there name old rows ≡ Ok new) → of_tree r tree ≡ Changed (record r { relvars = new })
-insertion-answered r name heading rows tree old c new plain named found headed relation logless comes =
+    → has_log r.relvars ≡ false → has_stored r.relvars ≡ false → ((at there : Place) → brought_in r (joining None) at there name old rows ≡ Ok new)
+    → of_tree r tree ≡ Changed (record r { relvars = new })
+insertion-answered r name heading rows tree old c new plain named found headed relation logless unstored comes =
     let done = plain-done r Adding name heading rows tree old c plain named found headed relation in
     let assigned : assigned_in r (assignments_of r.relvars done.items) ≡ Ok new =
     ap (assigned_in r) done.meant
-    ∙ (brought_assigned r done.assignment (joining None) done.at done.there old rows done.source logless
+    ∙ (brought_assigned r done.assignment (joining None) done.at done.there old rows done.source logless unstored
     ∙ (ap (λ (target : Name). brought_in r (joining None) done.at done.there target old rows) done.target ∙ comes done.at done.there)) in
     ap (unless_fault (of_checked r)) done.typed ∙ ap (unless_refused r) assigned
 
@@ -107,6 +109,9 @@ module _ (es : Entries) (i n size : ℕ) (name : Name) (v : Relation) (c : List 
   logless : has_log r.relvars ≡ false
   logless = ap has_log is.now ∙ loaded-logless i n es is.logless
 
+  unstored : has_stored r.relvars ≡ false
+  unstored = ap has_stored is.now ∙ loaded-unstored i n es is.unstored
+
   named : is_name name ≡ true
   named = name-is name (word-name name is.sayable.named)
 
@@ -118,7 +123,7 @@ module _ (es : Entries) (i n size : ℕ) (name : Name) (v : Relation) (c : List 
     tree = read.0;
     text = read.1;
     keeping = insertion-leaves r.ordinals name v.heading next read.0 read.2;
-    answered = insertion-answered r name v.heading next read.0 (first_of_value n v) c (loaded i (n + size) es) read.2 named found refl (first-relation n v whole) logless comes;
+    answered = insertion-answered r name v.heading next read.0 (first_of_value n v) c (loaded i (n + size) es) read.2 named found refl (first-relation n v whole) logless unstored comes;
     one = one;
   }
 

@@ -11,7 +11,7 @@ use Rattle.tree_core.specs.Relvars.{State, PlainRelvar, Entries}
 use Rattle.tree_core.specs.Trees.{Test}
 use Rattle.tree_core.specs.Uses.{is_one_of}
 use Rattle.meaning_core.specs.Declarations.{group, without_group, without_rule}
-use Rattle.typing_laws.specs.Saying.{Said, said_ordinal, said_base, said_view, said_history, said_rule, names_said, entries_said, ordinals_said, rules_said}
+use Rattle.typing_laws.specs.Saying.{Said, said_ordinal, said_base, said_view, said_stored, said_history, said_rule, names_said, entries_said, ordinals_said, rules_said}
 use Rattle.dump_laws.specs.Kept.{is_early, is_late, is_early_said, is_view_said, IsListedAs}
 use Rattle.part_laws.specs.Parts.{emptied}
 use Rattle.dump_laws.proofs.ListLaws.{filter-map, filter-swap, gathered, cut-from, none-given}
@@ -23,6 +23,7 @@ pub rule-name : (r : Name × Test) (d : Said) → In r (rules_said d) → In r.0
 rule-name r (said_ordinal name names) i = absurd i
 rule-name r (said_base name heading typed) i = absurd i
 rule-name r (said_view name t) i = absurd i
+rule-name r (said_stored name t) i = absurd i
 rule-name r (said_history h) i = absurd i
 rule-name r (said_rule name t) i = elim i [ inl k ↦ inl (ap (λ (x : Name × Test). x.0) k) | inr k ↦ absurd k ]
 

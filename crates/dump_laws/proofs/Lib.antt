@@ -20,12 +20,14 @@ pub mod OrderLaws
 pub mod LikeEntries
 pub mod PlaceLemmas
 pub mod LoggedLaws
+pub mod LoadedLaws
 pub mod StandingLaws
 pub mod KnownLaws
 pub mod SaidTexts
 pub mod SegmentLaws
 pub mod StepLaws
 pub mod ReachedLaws
+pub mod RoomLaws
 pub mod PhaseLaws
 pub mod RowsLaws
 pub mod KindTexts

@@ -2,20 +2,22 @@
 --     like-append, like-length, like-names      joined, their number and their names
 --     BothLike, named-like      what a name stands for in both
 --     like-filtered, same-early, same-late      some of them, and the like of what stands before all rows stands there too, and of a view
---     like-logless      where there is no log there, there is none
+--     like-logless, like-unstored      where there is no log there, there is none, and so it is of stored views
 --     full-one, like-full, like-bare      rows do not count
 --     rules-append, rules-length, no-rules      the same of database constraints
 --     like-emptied, filled-like, filled-rowless      relvars with the values of others
 use Rattle.std.proofs.Common.{◌≡◌, suc, Bool, true, false, cond, List, [], ◌∷◌, ◌++◌, map, length, refl, sym, ap, ap₂, ◌∙◌, subst, Option, Some, None}
-use Rattle.std.specs.List.{filter, AllByRecursion}
+use Rattle.std.specs.List.{filter, list_any, AllByRecursion}
 use Rattle.std.specs.Str.{bytes_eq}
 use Rattle.std.proofs.lemmas.Bool.{or_parts, or_from}
 use Rattle.value_core.specs.declared.constraint.Constraint.{Constraint}
 use Rattle.value_core.specs.Values.{Name, Relation}
-use Rattle.tree_core.specs.Relvars.{PlainRelvar, base, view, Entries, Rules, relvar_named, log, PlainKind}
+use Rattle.tree_core.specs.Relvars.{PlainRelvar, base, view, Entries, Rules, relvar_named, log, PlainKind, derived, stored, of_history}
+use Rattle.tree_core.specs.Trees.{Tree}
 use Rattle.meaning_core.specs.Logs.{is_log, has_log}
 use Rattle.meaning_core.proofs.RowlessLemmas.{bare, bare_entry, bare_all}
 use Rattle.meaning_laws.specs.Likeness.{IsLike}
+use Rattle.stored_views.specs.Stored.{is_stored, has_stored}
 use Rattle.part_laws.specs.Parts.{IsEmptied, AreEmptied, filled, emptied, without_rows}
 use Rattle.dump_laws.specs.Kept.{is_early_relvar, is_early, is_late_relvar, is_late}
 use Rattle.dump_laws.specs.Phases.{IsBare}
@@ -97,7 +99,17 @@ same-late n m (log o i last w) (base u d) h = absurd h
 same-late n m (log o i last w) (view u g) h = absurd h
 same-late n m (log o i last w) (log p j k v) h = refl
 
--- ---- logs
+-- ---- logs and stored views
+
+-- where none is so there, none is here
+like-none : (p : PlainRelvar → Bool) → ((x y : PlainRelvar) → IsLike x y → p y ≡ p x) → (xs ys : Entries) → AreLikeEntries xs ys
+    → list_any (λ (e : Name × PlainRelvar). p e.1) xs ≡ false → list_any (λ (e : Name × PlainRelvar). p e.1) ys ≡ false
+like-none p same [] [] h none = none
+like-none p same [] (y ∷ ys) h none = absurd h
+like-none p same (x ∷ xs) [] h none = absurd h
+like-none p same (x ∷ xs) (y ∷ ys) h none =
+    let parts = or_parts (p x.1) (list_any (λ (e : Name × PlainRelvar). p e.1) xs) none in
+    or_from (p y.1) (list_any (λ (e : Name × PlainRelvar). p e.1) ys) (same x.1 y.1 h.0.1 ∙ parts.0) (like-none p same xs ys h.1 parts.1)
 
 same-log : (x y : PlainRelvar) → IsLike x y → is_log y ≡ is_log x
 same-log (base v c) (base u d) h = refl
@@ -111,12 +123,27 @@ same-log (log o i last w) (view u g) h = absurd h
 same-log (log o i last w) (log p j k v) h = refl
 
 pub like-logless : (xs ys : Entries) → AreLikeEntries xs ys → has_log xs ≡ false → has_log ys ≡ false
-like-logless [] [] h none = none
-like-logless [] (y ∷ ys) h none = absurd h
-like-logless (x ∷ xs) [] h none = absurd h
-like-logless (x ∷ xs) (y ∷ ys) h none =
-    let parts = or_parts (is_log x.1) (has_log xs) none in
-    or_from (is_log y.1) (has_log ys) (same-log x.1 y.1 h.0.1 ∙ parts.0) (like-logless xs ys h.1 parts.1)
+like-logless xs ys h none = like-none is_log same-log xs ys h none
+
+-- whether a view is stored does not turn on its expression
+stored-by-kind : (t u : Tree) (kind : PlainKind) → is_stored (view u kind) ≡ is_stored (view t kind)
+stored-by-kind t u derived = refl
+stored-by-kind t u stored = refl
+stored-by-kind t u (of_history names) = refl
+
+same-stored : (x y : PlainRelvar) → IsLike x y → is_stored y ≡ is_stored x
+same-stored (base v c) (base u d) h = refl
+same-stored (base v c) (view u g) h = absurd h
+same-stored (base v c) (log o i last w) h = absurd h
+same-stored (view t k) (base u d) h = absurd h
+same-stored (view t k) (view u g) h = ap (λ (kind : PlainKind). is_stored (view u kind)) h.1 ∙ stored-by-kind t u k
+same-stored (view t k) (log o i last w) h = absurd h
+same-stored (log o i last w) (base u d) h = absurd h
+same-stored (log o i last w) (view u g) h = absurd h
+same-stored (log o i last w) (log p j k v) h = refl
+
+pub like-unstored : (xs ys : Entries) → AreLikeEntries xs ys → has_stored xs ≡ false → has_stored ys ≡ false
+like-unstored xs ys h none = like-none is_stored same-stored xs ys h none
 
 -- ---- rows do not count
 

@@ -1,12 +1,12 @@
 -- Logs in a state that a run leaves: no text says them.
 --     said-logless      what is said is no log
---     early-logless, loaded-logless      what stands before all rows is no log, and so it stays while its rows come in
+--     log-emptied      without rows, an entry is a log as before
 --     logged-apart, log-alone      no name that is said is a log's, and a log goes alone
 --     listed-without-log, listed-with-log      without a log, and with one more, the same is said of the state
-use Rattle.std.proofs.Common.{◌≡◌, inl, inr, ℕ, zero, suc, Bool, true, false, not, List, [], ◌∷◌, ◌++◌, map, refl, sym, ap, ◌∙◌, subst, append-nil, Option, Some, None}
+use Rattle.std.proofs.Common.{◌≡◌, inl, inr, Bool, true, false, not, List, [], ◌∷◌, ◌++◌, map, refl, sym, ap, ◌∙◌, subst, append-nil, Option, Some, None}
 use Rattle.std.specs.List.{filter, flat_map}
 use Rattle.std.specs.Str.{bytes_eq}
-use Rattle.std.proofs.lemmas.Bool.{true≢false, or_parts, or_from}
+use Rattle.std.proofs.lemmas.Bool.{true≢false, or_from}
 use Rattle.std.proofs.lemmas.List.Elements.{filter-append}
 use Rattle.std.proofs.lemmas.List.Folds.{list_any-append}
 use Rattle.base_core.proofs.MemberLemmas.{In-append, In-filter, In-map}
@@ -14,7 +14,7 @@ use Rattle.base_core.proofs.SetLemmas.{In}
 use Rattle.relation_core.proofs.FilterLemmas.{filter_all}
 use Rattle.value_core.specs.declared.list.OrdinalNames.{OrdinalNames}
 use Rattle.value_core.specs.Values.{Name}
-use Rattle.tree_core.specs.Relvars.{State, PlainRelvar, base, view, log, Entries, relvar_named, history_if, derived, stored, of_history}
+use Rattle.tree_core.specs.Relvars.{State, PlainRelvar, base, view, log, relvar_named, history_if}
 use Rattle.tree_core.specs.Trees.{Test}
 use Rattle.tree_core.specs.Uses.{is_one_of}
 use Rattle.tree_core.specs.declared.declaration.LogData.{LogData}
@@ -24,8 +24,8 @@ use Rattle.meaning_core.specs.WellMade.{IsWellMade}
 use Rattle.meaning_core.proofs.MadeLemmas.{same_name}
 use Rattle.assign_core.specs.Parts.{names_in}
 use Rattle.assign_core.proofs.NameLemmas.{relvars_differ}
-use Rattle.typing_laws.specs.Saying.{Said, said_ordinal, said_base, said_view, said_history, said_rule, names_said, entries_said}
-use Rattle.part_laws.specs.Parts.{with_first, emptied, without_rows, loaded}
+use Rattle.typing_laws.specs.Saying.{Said, said_ordinal, said_base, said_view, said_stored, said_history, said_rule, names_said, entries_said}
+use Rattle.part_laws.specs.Parts.{emptied, without_rows}
 use Rattle.dump_laws.specs.Kept.{is_early, is_late, IsListedAs}
 use Rattle.dump_laws.proofs.ListLaws.{filter-swap, distinct-apart}
 use Rattle.dump_laws.proofs.MadeLaws.{named-in, entry-in, ordinal-in, rule-in}
@@ -33,7 +33,7 @@ use Rattle.dump_laws.proofs.PlaceLemmas.{named-once}
 
 -- ---- what is no log
 
-log-emptied : (r : PlainRelvar) → is_log (without_rows r) ≡ is_log r
+pub log-emptied : (r : PlainRelvar) → is_log (without_rows r) ≡ is_log r
 log-emptied (base value constraints) = refl
 log-emptied (view t kind) = refl
 log-emptied (log of side last value) = refl
@@ -42,6 +42,7 @@ entry-no-log : (e : Name × PlainRelvar) (d : Said) → In e (entries_said d) �
 entry-no-log e (said_ordinal name names) i = absurd i
 entry-no-log e (said_base name heading typed) i = elim i [ inl k ↦ ap (λ (x : Name × PlainRelvar). is_log x.1) k | inr k ↦ absurd k ]
 entry-no-log e (said_view name t) i = elim i [ inl k ↦ ap (λ (x : Name × PlainRelvar). is_log x.1) k | inr k ↦ absurd k ]
+entry-no-log e (said_stored name t) i = elim i [ inl k ↦ ap (λ (x : Name × PlainRelvar). is_log x.1) k | inr k ↦ absurd k ]
 entry-no-log e (said_history made) i = elim i [
   | inl k ↦ ap (λ (x : Name × PlainRelvar). is_log x.1) k
   | inr j ↦ elim j [
@@ -55,6 +56,7 @@ said-one-logless : (d : Said) → has_log (entries_said d) ≡ false
 said-one-logless (said_ordinal name names) = refl
 said-one-logless (said_base name heading typed) = refl
 said-one-logless (said_view name t) = refl
+said-one-logless (said_stored name t) = refl
 said-one-logless (said_history made) = refl
 said-one-logless (said_rule name t) = refl
 
@@ -74,35 +76,6 @@ late-no-log : (x : Name × PlainRelvar) → is_late x ≡ true → is_log x.1 �
 late-no-log (name, base value constraints) e = refl
 late-no-log (name, view t kind) e = refl
 late-no-log (name, log of side last value) e = absurd (true≢false (sym e))
-
-pub early-logless : (es : Entries) → has_log (filter is_early es) ≡ false
-early-logless [] = refl
-early-logless ((name, base value constraints) ∷ es) = early-logless es
-early-logless ((name, view t derived) ∷ es) = early-logless es
-early-logless ((name, view t stored) ∷ es) = early-logless es
-early-logless ((name, view t (of_history names)) ∷ es) = early-logless es
-early-logless ((name, log of side last value) ∷ es) = early-logless es
-
--- with its first rows alone, or without rows, an entry is a log as before
-log-first : (n : ℕ) (r : PlainRelvar) → is_log (with_first n r) ≡ is_log r
-log-first n (base value constraints) = refl
-log-first n (view t kind) = refl
-log-first n (log of side last value) = refl
-
-emptied-logless : (es : Entries) → has_log es ≡ false → has_log (map emptied es) ≡ false
-emptied-logless [] none = refl
-emptied-logless (e ∷ es) none =
-    let parts = or_parts (is_log e.1) (has_log es) none in
-    or_from (is_log (without_rows e.1)) (has_log (map emptied es)) (log-emptied e.1 ∙ parts.0) (emptied-logless es parts.1)
-
-pub loaded-logless : (i n : ℕ) (es : Entries) → has_log es ≡ false → has_log (loaded i n es) ≡ false
-loaded-logless i n [] none = refl
-loaded-logless zero n (e ∷ es) none =
-    let parts = or_parts (is_log e.1) (has_log es) none in
-    or_from (is_log (with_first n e.1)) (has_log (map emptied es)) (log-first n e.1 ∙ parts.0) (emptied-logless es parts.1)
-loaded-logless (suc i) n (e ∷ es) none =
-    let parts = or_parts (is_log e.1) (has_log es) none in
-    or_from (is_log e.1) (has_log (loaded i n es)) parts.0 (loaded-logless i n es parts.1)
 
 -- ---- a log's name
 
@@ -148,6 +121,10 @@ module _ (w : State) (ds : List Said) (listed : IsListedAs w ds) (well : IsWellM
   ]
   logged-apart (said_view own t) i n j = elim j [
     | inl k ↦ subst (λ (m : Name). bytes_eq m name ≡ false) (sym k) (entry-apart _ (said_view own t) i (inl refl))
+    | inr k ↦ absurd k
+  ]
+  logged-apart (said_stored own t) i n j = elim j [
+    | inl k ↦ subst (λ (m : Name). bytes_eq m name ≡ false) (sym k) (entry-apart _ (said_stored own t) i (inl refl))
     | inr k ↦ absurd k
   ]
   logged-apart (said_history h) i n j = elim j [

@@ -5,7 +5,7 @@
 --     named-in, in-named      an entry that is looked up, and one that stands there
 --     taken-by      a name that is said is taken
 --     made-more      the state with what is said is made of one more
-use Rattle.std.proofs.Common.{◌≡◌, inl, inr, Bool, true, false, cond, List, [], ◌∷◌, ◌++◌, map, refl, sym, ap, ap₂, ◌∙◌, subst, Some, None}
+use Rattle.std.proofs.Common.{◌≡◌, inl, inr, Bool, true, false, cond, List, [], ◌∷◌, ◌++◌, map, refl, sym, ap, ap₂, ◌∙◌, subst, Some}
 use Rattle.std.specs.Prelude.{is_some, ◌||◌}
 use Rattle.std.specs.List.{filter, flat_map, list_any, IsDistinct}
 use Rattle.std.specs.Str.{bytes_eq}
@@ -22,7 +22,7 @@ use Rattle.meaning_core.specs.Logs.{is_log}
 use Rattle.meaning_core.proofs.ElsewhereLemmas.{some-apart}
 use Rattle.meaning_core.proofs.MadeLemmas.{own_name, same_name}
 use Rattle.declaration_typing.specs.Names.{is_rule, is_taken}
-use Rattle.typing_laws.specs.Saying.{Said, said_ordinal, said_base, said_view, said_history, said_rule, names_said, entries_said, ordinals_said, rules_said, with_said}
+use Rattle.typing_laws.specs.Saying.{Said, said_ordinal, said_base, said_view, said_stored, said_history, said_rule, names_said, entries_said, ordinals_said, rules_said, with_said}
 use Rattle.dump_laws.specs.Kept.{is_early, is_late, is_early_said, is_view_said, IsListedAs}
 use Rattle.part_laws.specs.Parts.{emptied}
 use Rattle.dump_laws.proofs.ListLaws.{gathered, given-last, distinct-join}
@@ -40,6 +40,7 @@ pub in-early : (e : Name × PlainRelvar) (d : Said) → In e (early_of d) → In
 in-early e (said_ordinal name names) i = i
 in-early e (said_base name heading typed) i = i
 in-early e (said_view name t) i = absurd i
+in-early e (said_stored name t) i = absurd i
 in-early e (said_history made) i = i
 in-early e (said_rule name t) i = absurd i
 
@@ -47,6 +48,7 @@ pub in-views : (e : Name × PlainRelvar) (d : Said) → In e (views_of d) → In
 in-views e (said_ordinal name names) i = absurd i
 in-views e (said_base name heading typed) i = absurd i
 in-views e (said_view name t) i = i
+in-views e (said_stored name t) i = i
 in-views e (said_history made) i = absurd i
 in-views e (said_rule name t) i = absurd i
 
@@ -55,6 +57,7 @@ pub entry-name : (e : Name × PlainRelvar) (d : Said) → In e (entries_said d) 
 entry-name e (said_ordinal name names) i = absurd i
 entry-name e (said_base name heading typed) i = elim i [ inl k ↦ inl (ap (λ (x : Name × PlainRelvar). x.0) k) | inr k ↦ absurd k ]
 entry-name e (said_view name t) i = elim i [ inl k ↦ inl (ap (λ (x : Name × PlainRelvar). x.0) k) | inr k ↦ absurd k ]
+entry-name e (said_stored name t) i = elim i [ inl k ↦ inl (ap (λ (x : Name × PlainRelvar). x.0) k) | inr k ↦ absurd k ]
 entry-name e (said_history made) i = elim i [
   | inl k ↦ inl (ap (λ (x : Name × PlainRelvar). x.0) k)
   | inr j ↦ elim j [
@@ -137,6 +140,9 @@ module _ (w : State) (ds : List Said) (made : IsListedAs w ds) where
   entry-in e (said_view name t) i j =
       let is : e ≡ (name, view t derived) = elim j [ inl k ↦ k | inr k ↦ absurd k ] in
       (e, (from-views e (said_view name t) i j refl).0, subst (λ (x : Name × PlainRelvar). x ≡ emptied x) (sym is) refl)
+  entry-in e (said_stored name t) i j =
+      let is : e ≡ (name, view t stored) = elim j [ inl k ↦ k | inr k ↦ absurd k ] in
+      (e, (from-views e (said_stored name t) i j refl).0, subst (λ (x : Name × PlainRelvar). x ≡ emptied x) (sym is) refl)
   entry-in e (said_history h) i j = from-early e (said_history h) i j refl
   entry-in e (said_rule name t) i j = absurd j
 
@@ -202,6 +208,10 @@ module _ (w : State) (ds : List Said) (made : IsListedAs w ds) where
     | inl k ↦ subst (λ (n : Name). is_taken w n ≡ true) (sym k) (by-entry _ (said_view own t) i (inl refl))
     | inr k ↦ absurd k
   ]
+  taken-by name (said_stored own t) i j = elim j [
+    | inl k ↦ subst (λ (n : Name). is_taken w n ≡ true) (sym k) (by-entry _ (said_stored own t) i (inl refl))
+    | inr k ↦ absurd k
+  ]
   taken-by name (said_history h) i j = elim j [
     | inl k ↦ subst (λ (n : Name). is_taken w n ≡ true) (sym k) (by-entry _ (said_history h) i (inl refl))
     | inr l ↦ elim l [
@@ -223,6 +233,7 @@ module _ (w : State) (ds : List Said) (made : IsListedAs w ds) where
   early-one (said_ordinal name names) = refl
   early-one (said_base name heading typed) = refl
   early-one (said_view name t) = refl
+  early-one (said_stored name t) = refl
   early-one (said_history h) = refl
   early-one (said_rule name t) = refl
 
@@ -230,6 +241,7 @@ module _ (w : State) (ds : List Said) (made : IsListedAs w ds) where
   views-one (said_ordinal name names) = refl
   views-one (said_base name heading typed) = refl
   views-one (said_view name t) = refl
+  views-one (said_stored name t) = refl
   views-one (said_history h) = refl
   views-one (said_rule name t) = refl
 

@@ -11,14 +11,14 @@ use Rattle.base_core.proofs.SetLemmas.{In}
 use Rattle.value_core.specs.declared.constraint.Constraint.{Constraint}
 use Rattle.value_core.specs.declared.constraint.Constraint.TheVariants.{Key, Packed, WhenUnpacked, UKey, Foreign, History}
 use Rattle.value_core.specs.Values.{Name, Heading}
-use Rattle.tree_core.specs.Relvars.{State, PlainRelvar, base, view, Entries, relvar_named, relvar_heading, log, derived}
+use Rattle.tree_core.specs.Relvars.{State, PlainKind, PlainRelvar, base, view, Entries, relvar_named, relvar_heading, log, derived, stored}
 use Rattle.tree_core.specs.Trees.{Tree, Test}
 use Rattle.tree_core.specs.Uses.{names_any, test_names_any, references_any, relvar_names_any}
 use Rattle.meaning_core.specs.WellMade.{sizes_of, headings_of, IsBase, IsConstraint, IsRelvar, AreRelvars, IsWellMade, IsTypedTestFor}
 use Rattle.meaning_core.proofs.ElsewhereLemmas.{IsClear, typed-names, typed-test-names}
 use Rattle.meaning_core.proofs.RelvarLemmas.{heading_of_named, named_before}
 use Rattle.declaration_typing.specs.Drops.{relvars_use, rules_use, is_used}
-use Rattle.typing_laws.specs.Saying.{Said, said_ordinal, said_base, said_view, said_history, said_rule, names_said, entries_said, names_other, references_other, said_names_any}
+use Rattle.typing_laws.specs.Saying.{Said, said_ordinal, said_base, said_view, said_stored, said_history, said_rule, names_said, entries_said, names_other, references_other, said_names_any}
 use Rattle.typing_laws.proofs.SaidNames.{said-unused}
 use Rattle.dump_laws.specs.Kept.{IsListedAs}
 use Rattle.part_laws.specs.Parts.{emptied}
@@ -141,10 +141,11 @@ module _ (some : Name → Bool) where
   base-new sizes es (own, view t kind) name heading typed new is e = absurd (subst (λ (y : Name × PlainRelvar). IsView y.1) (sym e) tt)
   base-new sizes es (own, log o k last w) name heading typed new is e = absurd (subst (λ (y : Name × PlainRelvar). IsBaseRelvar y.1) e tt)
 
-  view-new : (sizes : _) (es : Entries) (x : Name × PlainRelvar) (name : Name) (t : Tree) → AreNew es → IsRelvar sizes es x.0 x.1 → (name, view t derived) ≡ emptied x → names_any some t ≡ false
-  view-new sizes es (own, base value cs) name t new is e = absurd (subst (λ (y : Name × PlainRelvar). IsView y.1) e tt)
-  view-new sizes es (own, log o k last w) name t new is e = absurd (subst (λ (y : Name × PlainRelvar). IsView y.1) e tt)
-  view-new sizes es (own, view u kind) name t new is e =
+  view-new : (sizes : _) (es : Entries) (x : Name × PlainRelvar) (name : Name) (t : Tree) (kind : PlainKind) → AreNew es → IsRelvar sizes es x.0 x.1 → (name, view t kind) ≡ emptied x
+      → names_any some t ≡ false
+  view-new sizes es (own, base value cs) name t kind new is e = absurd (subst (λ (y : Name × PlainRelvar). IsView y.1) e tt)
+  view-new sizes es (own, log o k last w) name t kind new is e = absurd (subst (λ (y : Name × PlainRelvar). IsView y.1) e tt)
+  view-new sizes es (own, view u other) name t kind new is e =
       let same : u ≡ t = ap (λ (y : Name × PlainRelvar). tree_in t y.1) (sym e) in
       subst (λ (v : Tree). names_any some v ≡ false) same (typed-names some sizes (headings_of es) (new-clear es new) u is.0)
 
@@ -157,10 +158,10 @@ module _ (some : Name → Bool) where
   base-left (own, view t kind) name heading typed none e = absurd (subst (λ (y : Name × PlainRelvar). IsView y.1) (sym e) tt)
   base-left (own, log o k last w) name heading typed none e = absurd (subst (λ (y : Name × PlainRelvar). IsBaseRelvar y.1) e tt)
 
-  view-left : (x : Name × PlainRelvar) (name : Name) (t : Tree) → relvar_names_any some x.1 ≡ false → (name, view t derived) ≡ emptied x → names_any some t ≡ false
-  view-left (own, base value cs) name t none e = absurd (subst (λ (y : Name × PlainRelvar). IsView y.1) e tt)
-  view-left (own, log o k last w) name t none e = absurd (subst (λ (y : Name × PlainRelvar). IsView y.1) e tt)
-  view-left (own, view u kind) name t none e =
+  view-left : (x : Name × PlainRelvar) (name : Name) (t : Tree) (kind : PlainKind) → relvar_names_any some x.1 ≡ false → (name, view t kind) ≡ emptied x → names_any some t ≡ false
+  view-left (own, base value cs) name t kind none e = absurd (subst (λ (y : Name × PlainRelvar). IsView y.1) e tt)
+  view-left (own, log o k last w) name t kind none e = absurd (subst (λ (y : Name × PlainRelvar). IsView y.1) e tt)
+  view-left (own, view u other) name t kind none e =
       let same : u ≡ t = ap (λ (y : Name × PlainRelvar). tree_in t y.1) (sym e) in
       subst (λ (v : Tree). names_any some v ≡ false) same none
 
@@ -181,7 +182,10 @@ module _ (some : Name → Bool) where
         base-new (sizes_of w.ordinals) at.1 at.0 name heading typed at.3 at.4 at.2
     unnamed-new (said_view name t) well new i =
         let at = at-place _ (said_view name t) well new i (inl refl) in
-        view-new (sizes_of w.ordinals) at.1 at.0 name t at.3 at.4 at.2
+        view-new (sizes_of w.ordinals) at.1 at.0 name t derived at.3 at.4 at.2
+    unnamed-new (said_stored name t) well new i =
+        let at = at-place _ (said_stored name t) well new i (inl refl) in
+        view-new (sizes_of w.ordinals) at.1 at.0 name t stored at.3 at.4 at.2
     unnamed-new (said_history h) well new i = refl
     unnamed-new (said_rule name t) well new i =
         typed-test-names some (sizes_of w.ordinals) (headings_of w.relvars) (new-clear w.relvars new) t
@@ -207,7 +211,11 @@ module _ (some : Name → Bool) where
     unnamed-left (said_view name t) unused other i =
         let parts = or_parts (relvars_use w.relvars some) (rules_use w.rules some) unused in
         let is = not-used _ (said_view name t) parts.0 (other name (inl refl)) i (inl refl) in
-        view-left is.0 name t is.2 is.1
+        view-left is.0 name t derived is.2 is.1
+    unnamed-left (said_stored name t) unused other i =
+        let parts = or_parts (relvars_use w.relvars some) (rules_use w.rules some) unused in
+        let is = not-used _ (said_stored name t) parts.0 (other name (inl refl)) i (inl refl) in
+        view-left is.0 name t stored is.2 is.1
     unnamed-left (said_history h) unused other i = refl
     unnamed-left (said_rule name t) unused other i =
         let parts = or_parts (relvars_use w.relvars some) (rules_use w.rules some) unused in

@@ -7,7 +7,7 @@
 --     order-member, member-order      the same is said
 --     order-ordinals, order-entries, order-rules      what all of it adds to a state
 --     parts-length      what stands before all rows and views are no more than all
-use Rattle.std.proofs.Common.{◌≡◌, ◌⊎◌, inl, inr, ◌+◌, ◌≤◌, Bool, true, false, cond, Some, None, List, [], ◌∷◌, ◌++◌, map, length, refl, sym, ap, ap₂, ◌∙◌, subst, append-nil, arith}
+use Rattle.std.proofs.Common.{◌≡◌, ◌⊎◌, inl, inr, ◌+◌, ◌≤◌, Bool, true, false, cond, List, [], ◌∷◌, ◌++◌, map, length, refl, sym, ap, ap₂, ◌∙◌, subst, append-nil, arith}
 use Rattle.std.specs.List.{filter, flat_map, IsDistinct}
 use Rattle.std.specs.Str.{bytes_eq}
 use Rattle.std.proofs.lemmas.Bool.{true≢false}
@@ -17,7 +17,7 @@ use Rattle.base_core.proofs.SetLemmas.{In}
 use Rattle.value_core.specs.Values.{Name}
 use Rattle.value_core.specs.declared.list.OrdinalNames.{OrdinalNames}
 use Rattle.tree_core.specs.Relvars.{State, base, view, log, Entries, Rules, derived, stored, of_history}
-use Rattle.typing_laws.specs.Saying.{Said, said_ordinal, said_base, said_view, said_history, said_rule, names_said, entries_said, ordinals_said, rules_said}
+use Rattle.typing_laws.specs.Saying.{Said, said_ordinal, said_base, said_view, said_stored, said_history, said_rule, names_said, entries_said, ordinals_said, rules_said}
 use Rattle.dump_laws.specs.Kept.{is_early, is_late, is_early_said, is_view_said, IsMadeOf}
 use Rattle.part_laws.specs.Parts.{emptied}
 use Rattle.std.proofs.lemmas.List.Concat.{flat_map-append}
@@ -91,6 +91,7 @@ pub late-ordinals : (d : Said) → is_early_said d ≡ false → ordinals_said d
 late-ordinals (said_ordinal name names) e = absurd (true≢false e)
 late-ordinals (said_base name heading typed) e = refl
 late-ordinals (said_view name t) e = refl
+late-ordinals (said_stored name t) e = refl
 late-ordinals (said_history made) e = refl
 late-ordinals (said_rule name t) e = refl
 
@@ -98,6 +99,7 @@ pub view-ordinals : (d : Said) → is_view_said d ≡ true → ordinals_said d �
 view-ordinals (said_ordinal name names) e = absurd (true≢false (sym e))
 view-ordinals (said_base name heading typed) e = refl
 view-ordinals (said_view name t) e = refl
+view-ordinals (said_stored name t) e = refl
 view-ordinals (said_history made) e = refl
 view-ordinals (said_rule name t) e = refl
 
@@ -105,6 +107,7 @@ pub rule-ordinals : (d : Said) → is_rule_said d ≡ true → ordinals_said d �
 rule-ordinals (said_ordinal name names) e = absurd (true≢false (sym e))
 rule-ordinals (said_base name heading typed) e = refl
 rule-ordinals (said_view name t) e = refl
+rule-ordinals (said_stored name t) e = refl
 rule-ordinals (said_history made) e = refl
 rule-ordinals (said_rule name t) e = refl
 
@@ -112,6 +115,7 @@ pub early-rules : (d : Said) → is_early_said d ≡ true → rules_said d ≡ [
 early-rules (said_ordinal name names) e = refl
 early-rules (said_base name heading typed) e = refl
 early-rules (said_view name t) e = refl
+early-rules (said_stored name t) e = refl
 early-rules (said_history made) e = refl
 early-rules (said_rule name t) e = absurd (true≢false (sym e))
 
@@ -119,6 +123,7 @@ view-rules : (d : Said) → is_view_said d ≡ true → rules_said d ≡ []
 view-rules (said_ordinal name names) e = refl
 view-rules (said_base name heading typed) e = refl
 view-rules (said_view name t) e = refl
+view-rules (said_stored name t) e = refl
 view-rules (said_history made) e = refl
 view-rules (said_rule name t) e = absurd (true≢false (sym e))
 
@@ -126,6 +131,7 @@ other-rules : (d : Said) → is_rule_said d ≡ false → rules_said d ≡ []
 other-rules (said_ordinal name names) e = refl
 other-rules (said_base name heading typed) e = refl
 other-rules (said_view name t) e = refl
+other-rules (said_stored name t) e = refl
 other-rules (said_history made) e = refl
 other-rules (said_rule name t) e = absurd (true≢false e)
 
@@ -133,6 +139,7 @@ pub rule-entries : (d : Said) → is_rule_said d ≡ true → entries_said d ≡
 rule-entries (said_ordinal name names) e = refl
 rule-entries (said_base name heading typed) e = absurd (true≢false (sym e))
 rule-entries (said_view name t) e = absurd (true≢false (sym e))
+rule-entries (said_stored name t) e = absurd (true≢false (sym e))
 rule-entries (said_history made) e = absurd (true≢false (sym e))
 rule-entries (said_rule name t) e = refl
 
@@ -144,6 +151,7 @@ early-no-view x y p q e = clash x p (subst (λ (d : Said). is_view_said d ≡ tr
     clash (said_ordinal name names) a b = true≢false (sym b)
     clash (said_base name heading typed) a b = true≢false (sym b)
     clash (said_view name t) a b = true≢false (sym a)
+    clash (said_stored name t) a b = true≢false (sym a)
     clash (said_history made) a b = true≢false (sym b)
     clash (said_rule name t) a b = true≢false (sym b)
 
@@ -154,6 +162,7 @@ other-no-rule x y p q e = clash x p (subst (λ (d : Said). is_rule_said d ≡ tr
     clash (said_ordinal name names) a b = true≢false (sym b)
     clash (said_base name heading typed) a b = true≢false (sym b)
     clash (said_view name t) a b = true≢false (sym b)
+    clash (said_stored name t) a b = true≢false (sym b)
     clash (said_history made) a b = true≢false (sym b)
     clash (said_rule name t) a b = elim a [ inl c ↦ true≢false (sym c) | inr c ↦ true≢false (sym c) ]
 
@@ -191,6 +200,7 @@ pub member-order : (d : Said) (ds : List Said) → In d ds → In d (in_script_o
 member-order (said_ordinal name names) ds i = as-early (said_ordinal name names) ds i refl
 member-order (said_base name heading typed) ds i = as-early (said_base name heading typed) ds i refl
 member-order (said_view name t) ds i = as-view (said_view name t) ds i refl
+member-order (said_stored name t) ds i = as-view (said_stored name t) ds i refl
 member-order (said_history made) ds i = as-early (said_history made) ds i refl
 member-order (said_rule name t) ds i = as-rule (said_rule name t) ds i refl
 

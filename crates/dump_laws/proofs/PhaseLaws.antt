@@ -18,8 +18,9 @@ use Rattle.meaning_core.specs.Declarations.{counted}
 use Rattle.meaning_core.specs.Logs.{has_log}
 use Rattle.meaning_core.proofs.AcceptedLemmas.{made-turned}
 use Rattle.meaning_core.specs.WellMade.{IsWellMade}
+use Rattle.assign_core.specs.Room.{HasStoredRoom}
 use Rattle.dump_core.specs.Texts.{SourceText}
-use Rattle.typing_laws.specs.Saying.{Said, said_ordinal, said_base, said_view, said_history, said_rule, said_names_any, moved_said, entries_said, ordinals_said, with_said}
+use Rattle.typing_laws.specs.Saying.{Said, said_ordinal, said_base, said_view, said_stored, said_history, said_rule, said_names_any, moved_said, entries_said, ordinals_said, with_said}
 use Rattle.part_laws.specs.Parts.{is_base}
 use Rattle.dump_laws.specs.Kept.{is_early_said, is_view_said, IsTextOf, IsMadeOf}
 use Rattle.dump_laws.proofs.ListLaws.{in-middle}
@@ -28,6 +29,7 @@ use Rattle.dump_laws.specs.Accepting.{Outcome, TakesAll}
 use Rattle.dump_laws.specs.Phases.{IsBare, StandsEarly, StandsLate}
 use Rattle.dump_laws.specs.Standing.{is_rule_said, in_script_order, Stands, AreSaidFrom}
 use Rattle.dump_laws.proofs.ReachedLaws.{early_said, views_said, rules_of, known-early, known-view, known-rule, held-here}
+use Rattle.dump_laws.proofs.RoomLaws.{stored-here}
 use Rattle.dump_laws.proofs.SegmentLaws.{TextStep, segment-taken}
 use Rattle.dump_laws.proofs.StandingLaws.{stands-more, stands-unturned, stands-counted}
 use Rattle.dump_laws.proofs.StepLaws.{step-for, alike-here}
@@ -45,22 +47,25 @@ bare-said : (d : Said) → AllByRecursion IsBare (entries_said d)
 bare-said (said_ordinal name names) = tt
 bare-said (said_base name heading typed) = (refl, tt)
 bare-said (said_view name t) = (refl, tt)
+bare-said (said_stored name t) = (refl, tt)
 bare-said (said_history made) = (refl, (refl, (refl, tt)))
 bare-said (said_rule name t) = tt
 
--- what is not said by a database constraint's text needs not hold
-free-of-rules : (r : State) (d : Said) → (is_early_said d ≡ true) ⊎ (is_view_said d ≡ true) → (f : Place → Place) → IsHeld r (moved_said f d)
-free-of-rules r (said_ordinal name names) k f = tt
-free-of-rules r (said_base name heading typed) k f = tt
-free-of-rules r (said_view name t) k f = tt
-free-of-rules r (said_history made) k f = tt
-free-of-rules r (said_rule name t) k f = elim k [ inl e ↦ absurd (true≢false (sym e)) | inr e ↦ absurd (true≢false (sym e)) ]
+-- nothing is asked of what stands before all rows
+early-held : (r : State) (d : Said) → is_early_said d ≡ true → (f : Place → Place) → IsHeld r (moved_said f d)
+early-held r (said_ordinal name names) k f = tt
+early-held r (said_base name heading typed) k f = tt
+early-held r (said_view name t) k f = tt
+early-held r (said_stored name t) k f = absurd (true≢false (sym k))
+early-held r (said_history made) k f = tt
+early-held r (said_rule name t) k f = absurd (true≢false (sym k))
 
 -- no base relvar is said by a view's text, nor by a database constraint's
 no-base : (d : Said) → (is_view_said d ≡ true) ⊎ (is_rule_said d ≡ true) → (f : Place → Place) → filter is_base (entries_said (moved_said f d)) ≡ []
 no-base (said_ordinal name names) k f = refl
 no-base (said_base name heading typed) k f = elim k [ inl e ↦ absurd (true≢false (sym e)) | inr e ↦ absurd (true≢false (sym e)) ]
 no-base (said_view name t) k f = refl
+no-base (said_stored name t) k f = refl
 no-base (said_history made) k f = elim k [ inl e ↦ absurd (true≢false (sym e)) | inr e ↦ absurd (true≢false (sym e)) ]
 no-base (said_rule name t) k f = refl
 
@@ -81,7 +86,7 @@ module _ (text-step : TextStep) (keeps-made : KeepsMade) (w : State) (ds : List 
       let is = kind-of is_early_said ds done rest d e in
       step-for w ds made well done (rest ++ (views_said ds ++ rules_of ds)) d (early-whole done rest d e) r h.stands h.fits t types more same text
       (known-early w ds made well done rest d r e h.stands)
-      (free-of-rules r d (inl is.1))
+      (early-held r d is.1)
 
   early-next : (done rest : List Said) (d : Said) (t : SourceText) (place : Place) (bytes : List ℕ) (r : State) → early_said ds ≡ done ++ d ∷ rest → StandsEarly done r
       → (x : Declares place bytes r t d)
@@ -126,15 +131,28 @@ module _ (text-step : TextStep) (keeps-made : KeepsMade) (w : State) (ds : List 
       ap (λ (l : List Said). early_said ds ++ (l ++ rules_of ds)) e
       ∙ (ap (λ (l : List Said). early_said ds ++ l) (append_assoc done (d ∷ rest) (rules_of ds)) ∙ sym (append_assoc (early_said ds) done (d ∷ (rest ++ rules_of ds))))
 
-  views-step : has_log w.relvars ≡ false → (done rest : List Said) (d : Said) (t : SourceText) (r : State) (types more : List OrdinalNames) → views_said ds ≡ done ++ d ∷ rest → InViews done r
+  -- a stored view has room
+  view-held : has_log w.relvars ≡ false → HasStoredRoom w → (done rest : List Said) (d : Said) (r : State) → views_said ds ≡ done ++ d ∷ rest → InViews done r → is_view_said d ≡ true
+      → (f : Place → Place) → IsHeld r (moved_said f d)
+  view-held none room done rest (said_ordinal name names) r e h k f = tt
+  view-held none room done rest (said_base name heading typed) r e h k f = tt
+  view-held none room done rest (said_view name t) r e h k f = tt
+  view-held none room done rest (said_stored name t) r e h k f =
+      stored-here w ds made well none room (early_said ds ++ done) (rest ++ rules_of ds) name t (views-whole done rest (said_stored name t) e) r h
+      (known-view w ds made well none done rest (said_stored name t) r e h.stands) f
+  view-held none room done rest (said_history made') r e h k f = tt
+  view-held none room done rest (said_rule name t) r e h k f = absurd (true≢false (sym k))
+
+  views-step : has_log w.relvars ≡ false → HasStoredRoom w → (done rest : List Said) (d : Said) (t : SourceText) (r : State) (types more : List OrdinalNames) → views_said ds ≡ done ++ d ∷ rest
+      → InViews done r
       → flat_map ordinals_said (early_said ds ++ done) ≡ types ++ more
       → IsTextOf (record w { ordinals = types }) t d
       → IsStepFor w r types more t d
-  views-step none done rest d t r types more e h same text =
+  views-step none room done rest d t r types more e h same text =
       let is = kind-of is_view_said ds done rest d e in
       step-for w ds made well (early_said ds ++ done) (rest ++ rules_of ds) d (views-whole done rest d e) r h.stands h.fits t types more same text
       (known-view w ds made well none done rest d r e h.stands)
-      (free-of-rules r d (inr is.1))
+      (view-held none room done rest d r e h is.1)
 
   views-next : (done rest : List Said) (d : Said) (t : SourceText) (place : Place) (bytes : List ℕ) (r : State) → views_said ds ≡ done ++ d ∷ rest → InViews done r → (x : Declares place bytes r t d)
       → InViews (done ++ d ∷ []) (counted (with_said r (moved_said x.move d)))
@@ -142,12 +160,12 @@ module _ (text-step : TextStep) (keeps-made : KeepsMade) (w : State) (ds : List 
       let is = kind-of is_view_said ds done rest d e in
       subst (λ (l : List Said). StandsLate w l (counted (with_said r (moved_said x.move d)))) (append_assoc (early_said ds) done (d ∷ [])) (late-next (early_said ds ++ done) d t place bytes r (inl is.1) h x)
 
-  pub views-taken : has_log w.relvars ≡ false → (ts : List SourceText) (r : State) (texts : List SourceText) (After : Outcome) → StandsLate w (early_said ds) r
+  pub views-taken : has_log w.relvars ≡ false → HasStoredRoom w → (ts : List SourceText) (r : State) (texts : List SourceText) (After : Outcome) → StandsLate w (early_said ds) r
       → AreSaidFrom w (flat_map ordinals_said (early_said ds)) ts (views_said ds)
       → ((last : State) → StandsLate w (early_said ds ++ views_said ds) last → After last (texts ++ ts))
       → TakesAll (map (λ (t : SourceText). t.bytes) ts) r texts After
-  views-taken none ts r texts After h said then =
-      segment-taken text-step w (early_said ds) (views_said ds) InViews (views-step none) views-next [] (views_said ds) ts r texts After refl
+  views-taken none room ts r texts After h said then =
+      segment-taken text-step w (early_said ds) (views_said ds) InViews (views-step none room) views-next [] (views_said ds) ts r texts After refl
       (subst (λ (l : List Said). StandsLate w l r) (sym (append-nil (early_said ds))) h)
       (subst (λ (l : List Said). AreSaidFrom w (flat_map ordinals_said l) ts (views_said ds)) (sym (append-nil (early_said ds))) said) then
 
@@ -165,6 +183,7 @@ module _ (text-step : TextStep) (keeps-made : KeepsMade) (w : State) (ds : List 
     rule-known-here done r (said_ordinal name names) i k h = absurd (true≢false (sym k))
     rule-known-here done r (said_base name heading typed) i k h = absurd (true≢false (sym k))
     rule-known-here done r (said_view name t) i k h = absurd (true≢false (sym k))
+    rule-known-here done r (said_stored name t) i k h = absurd (true≢false (sym k))
     rule-known-here done r (said_history made') i k h = absurd (true≢false (sym k))
     rule-known-here done r (said_rule name t) i k h = known-rule w ds made well none done r h.stands name t i
 
@@ -172,6 +191,7 @@ module _ (text-step : TextStep) (keeps-made : KeepsMade) (w : State) (ds : List 
     rule-held done rest r (said_ordinal name names) e i k h f = tt
     rule-held done rest r (said_base name heading typed) e i k h f = tt
     rule-held done rest r (said_view name t) e i k h f = tt
+    rule-held done rest r (said_stored name t) e i k h f = absurd (true≢false (sym k))
     rule-held done rest r (said_history made') e i k h f = tt
     rule-held done rest r (said_rule name t) e i k h f =
         held-here w ds made well none r h.fits

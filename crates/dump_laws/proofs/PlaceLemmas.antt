@@ -3,18 +3,18 @@
 --     named-once      an entry of a name that stands once
 --     all-lengths      what some members give is no more than what all give
 --     IsOfBase      a base relvar with these constraints
---     IsPlaced, base-place, view-place      where a base relvar and a view that are said stand in a state
-use Rattle.std.proofs.Common.{◌≡◌, inl, inr, ◌+◌, ◌≤◌, Bool, true, false, cond, List, [], ◌∷◌, ◌++◌, map, length, refl, ap, ap₂, ◌∙◌, subst, Some, None, arith, length-append}
+--     IsPlaced, base-place, view-place, stored-place      where a base relvar and a view that are said stand in a state
+use Rattle.std.proofs.Common.{◌≡◌, inl, inr, ◌+◌, ◌≤◌, Bool, true, false, cond, List, [], ◌∷◌, ◌++◌, map, length, refl, ap, ap₂, ◌∙◌, subst, Some, arith, length-append}
 use Rattle.std.specs.List.{filter, flat_map, IsDistinct}
 use Rattle.std.specs.Str.{bytes_eq}
 use Rattle.base_core.proofs.MemberLemmas.{In-map}
 use Rattle.base_core.proofs.SetLemmas.{In}
 use Rattle.value_core.specs.declared.constraint.Constraint.{Constraint}
 use Rattle.value_core.specs.Values.{Name, Heading, Relation}
-use Rattle.tree_core.specs.Relvars.{State, PlainRelvar, base, view, Entries, relvar_named, log, derived}
+use Rattle.tree_core.specs.Relvars.{State, PlainRelvar, base, view, Entries, relvar_named, log, derived, stored}
 use Rattle.tree_core.specs.Trees.{Tree}
 use Rattle.meaning_core.proofs.MadeLemmas.{own_name}
-use Rattle.typing_laws.specs.Saying.{Said, said_base, said_view, entries_said}
+use Rattle.typing_laws.specs.Saying.{Said, said_base, said_view, said_stored, entries_said}
 use Rattle.dump_laws.specs.Kept.{is_early, is_late, is_early_said, is_view_said, IsMadeOf}
 use Rattle.part_laws.specs.Parts.{emptied, without_rows}
 use Rattle.dump_laws.proofs.ListLaws.{each-in, given-middle}
@@ -153,14 +153,21 @@ module _ (w : State) (ds : List Said) (made : IsMadeOf w ds) (done rest : List S
       base-from w (flat_map entries_said done) name u c
       (map-split emptied (filter is_early w.relvars) (flat_map entries_said done) (name, base u c) (flat_map entries_said rest) whole)
 
-  pub view-place : (t : Tree) → filter is_view_said ds ≡ done ++ said_view name t ∷ rest → IsPlaced w is_late (λ x. x) (flat_map entries_said done) name (view t derived)
-  view-place t e =
-      let y : Name × PlainRelvar = (name, view t derived) in
+  late-place : (d : Said) (r : PlainRelvar) → entries_said d ≡ (name, r) ∷ [] → filter is_view_said ds ≡ done ++ d ∷ rest → IsPlaced w is_late (λ x. x) (flat_map entries_said done) name r
+  late-place d r one e =
+      let y : Name × PlainRelvar = (name, r) in
       let whole : filter is_late w.relvars ≡ flat_map entries_said done ++ y ∷ flat_map entries_said rest =
-      made.views ∙ (ap (flat_map entries_said) e ∙ given-middle entries_said done rest (said_view name t)) in
+      made.views
+      ∙ (ap (flat_map entries_said) e ∙ (given-middle entries_said done rest d ∙ ap (λ (l : Entries). flat_map entries_said done ++ (l ++ flat_map entries_said rest)) one)) in
       let s : IsFilterSplit is_late w.relvars (flat_map entries_said done) y = filter-split is_late y (flat_map entries_said rest) w.relvars (flat_map entries_said done) whole in
       record { before = s.before; behind = s.behind; whole = s.whole; same = same-map (filter is_late s.before) ∙ s.same }
     where
       same-map : (es : Entries) → map (λ (x : Name × PlainRelvar). x) es ≡ es
       same-map [] = refl
       same-map (k ∷ es) = ap (λ (l : Entries). k ∷ l) (same-map es)
+
+  pub view-place : (t : Tree) → filter is_view_said ds ≡ done ++ said_view name t ∷ rest → IsPlaced w is_late (λ x. x) (flat_map entries_said done) name (view t derived)
+  view-place t e = late-place (said_view name t) (view t derived) refl e
+
+  pub stored-place : (t : Tree) → filter is_view_said ds ≡ done ++ said_stored name t ∷ rest → IsPlaced w is_late (λ x. x) (flat_map entries_said done) name (view t stored)
+  stored-place t e = late-place (said_stored name t) (view t stored) refl e

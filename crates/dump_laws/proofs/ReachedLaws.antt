@@ -2,6 +2,7 @@
 --     early_said, views_said, rules_of      what is said, by its kind
 --     early-there, all-there      what stands before all rows, and all relvars and views, have their names
 --     known-early, known-view, known-rule      what is said names what was declared
+--     values-here      base relvars have their values
 --     held-here      a database constraint holds
 -- All but the first of each where there is no log.
 use Rattle.std.proofs.Common.{◌≡◌, inl, inr, Bool, true, false, List, ◌∷◌, ◌++◌, map, refl, sym, ap, ◌∙◌, subst, Option, Some, None}
@@ -12,9 +13,9 @@ use Rattle.base_core.proofs.MemberLemmas.{In-append, In-filter, In-map}
 use Rattle.base_core.proofs.SetLemmas.{In}
 use Rattle.point_core.specs.declared.fault.Place.{Place}
 use Rattle.value_core.specs.Values.{Name}
-use Rattle.tree_core.specs.Relvars.{State, PlainRelvar, base, view, Entries, relvar_named, log, derived}
-use Rattle.tree_core.specs.Trees.{Test}
-use Rattle.tree_core.specs.Uses.{test_names_any}
+use Rattle.tree_core.specs.Relvars.{State, PlainKind, PlainRelvar, base, view, Entries, relvar_named, log, derived, stored}
+use Rattle.tree_core.specs.Trees.{Tree, Test}
+use Rattle.tree_core.specs.Uses.{names_any, test_names_any}
 use Rattle.meaning_core.specs.Logs.{is_log, has_log}
 use Rattle.meaning_core.specs.Truths.{holds_in}
 use Rattle.meaning_core.specs.WellMade.{sizes_of, IsWellMade}
@@ -22,7 +23,7 @@ use Rattle.meaning_laws.specs.Likeness.{Alike, HasValues, ValueIf}
 use Rattle.meaning_laws.specs.Moved.{moved_test}
 use Rattle.meaning_laws.proofs.MeaningAlike.{holds-alike}
 use Rattle.assign_core.proofs.NameLemmas.{relvars_differ}
-use Rattle.typing_laws.specs.Saying.{Said, said_ordinal, said_base, said_view, said_history, said_rule, said_names_any, entries_said}
+use Rattle.typing_laws.specs.Saying.{Said, said_ordinal, said_base, said_view, said_stored, said_history, said_rule, said_names_any, entries_said}
 use Rattle.part_laws.specs.Parts.{is_base, emptied}
 use Rattle.part_laws.proofs.EntryLemmas.{named-filtered, named-unfiltered}
 use Rattle.dump_laws.specs.Kept.{is_early, is_late, is_early_said, is_view_said, IsMadeOf}
@@ -34,7 +35,7 @@ use Rattle.dump_laws.proofs.SayableLaws.{listed-of}
 use Rattle.dump_laws.specs.Replays.{lacks}
 use Rattle.dump_laws.specs.Standing.{is_rule_said, Stands}
 use Rattle.dump_laws.proofs.KnownLaws.{base-known, view-known, rule-known}
-use Rattle.dump_laws.proofs.PlaceLemmas.{IsPlaced, base-place, view-place}
+use Rattle.dump_laws.proofs.PlaceLemmas.{IsPlaced, base-place, view-place, stored-place}
 use Rattle.dump_laws.proofs.StandingLaws.{stands-for, apart-so-far}
 use Rattle.dump_laws.proofs.StepLaws.{rule-typed}
 
@@ -91,10 +92,29 @@ module _ (w : State) (ds : List Said) (made : IsMadeOf w ds) (well : IsWellMade 
           stands-for done r h (emptied x)
           (subst (In (emptied x)) placed.same ((In-map emptied (emptied x) (filter is_early placed.before)).1 (x, (In-filter is_early x placed.before).1 (j, k), refl))))
       by (said_view name t) q i = absurd (true≢false (sym ((In-filter is_early_said (said_view name t) ds).0 i).1))
+      by (said_stored name t) q i = absurd (true≢false (sym ((In-filter is_early_said (said_stored name t) ds).0 i).1))
       by (said_history made) q i = refl
       by (said_rule name t) q i = absurd (true≢false (sym ((In-filter is_early_said (said_rule name t) ds).0 i).1))
 
   -- ---- views
+
+  -- a view names what is before it
+  placed-known : has_log w.relvars ≡ false → (done : List Said) (r : State) → Stands (early_said ds ++ done) r → (name : Name) (t : Tree) (kind : PlainKind)
+      → IsPlaced w is_late (λ x. x) (flat_map entries_said done) name (view t kind) → names_any (lacks r) t ≡ false
+  placed-known none done r h name t kind placed = view-known w r well placed.before placed.behind name t kind placed.whole there
+    where
+      there : (x : Name × PlainRelvar) → In x placed.before → lacks r x.0 ≡ false
+      there x j = here (is_early x) refl
+        where
+          among : In x w.relvars
+          among = in-whole x (name, view t kind) w.relvars placed.before placed.behind placed.whole j
+
+          here : (b : Bool) → is_early x ≡ b → lacks r x.0 ≡ false
+          here true k = early-there done r h x among k
+          here false k =
+              let late : In x (filter is_late placed.before) = (In-filter is_late x placed.before).1 (j, late-where none x among k) in
+              let said : In x (flat_map entries_said done) = subst (In x) placed.same ((In-map (λ (y : Name × PlainRelvar). y) x (filter is_late placed.before)).1 (x, late, refl)) in
+              stands-for (early_said ds ++ done) r h x (in-later x (early_said ds) done said)
 
   pub known-view : has_log w.relvars ≡ false → (done rest : List Said) (d : Said) (r : State) → views_said ds ≡ done ++ d ∷ rest → Stands (early_said ds ++ done) r → said_names_any (lacks r) d ≡ false
   known-view none done rest d r e h = by d e (subst (In d) (sym e) (in-middle d done rest))
@@ -102,23 +122,8 @@ module _ (w : State) (ds : List Said) (made : IsMadeOf w ds) (well : IsWellMade 
       by : (z : Said) → views_said ds ≡ done ++ z ∷ rest → In z (views_said ds) → said_names_any (lacks r) z ≡ false
       by (said_ordinal name names) q i = refl
       by (said_base name heading c) q i = absurd (true≢false (sym ((In-filter is_view_said (said_base name heading c) ds).0 i).1))
-      by (said_view name t) q i = view-known w r well placed.before placed.behind name t derived placed.whole there
-        where
-          placed : IsPlaced w is_late (λ x. x) (flat_map entries_said done) name (view t derived)
-          placed = view-place w ds made done rest name t q
-
-          there : (x : Name × PlainRelvar) → In x placed.before → lacks r x.0 ≡ false
-          there x j = here (is_early x) refl
-            where
-              among : In x w.relvars
-              among = in-whole x (name, view t derived) w.relvars placed.before placed.behind placed.whole j
-
-              here : (b : Bool) → is_early x ≡ b → lacks r x.0 ≡ false
-              here true k = early-there done r h x among k
-              here false k =
-                  let late : In x (filter is_late placed.before) = (In-filter is_late x placed.before).1 (j, late-where none x among k) in
-                  let said : In x (flat_map entries_said done) = subst (In x) placed.same ((In-map (λ (y : Name × PlainRelvar). y) x (filter is_late placed.before)).1 (x, late, refl)) in
-                  stands-for (early_said ds ++ done) r h x (in-later x (early_said ds) done said)
+      by (said_view name t) q i = placed-known none done r h name t derived (view-place w ds made done rest name t q)
+      by (said_stored name t) q i = placed-known none done r h name t stored (stored-place w ds made done rest name t q)
       by (said_history made) q i = refl
       by (said_rule name t) q i = absurd (true≢false (sym ((In-filter is_view_said (said_rule name t) ds).0 i).1))
 
@@ -128,7 +133,7 @@ module _ (w : State) (ds : List Said) (made : IsMadeOf w ds) (well : IsWellMade 
   known-rule none more r h name t i = rule-known w r well t (rule-typed w ds made well name t i) (all-there none more r h)
 
   module _ (none : has_log w.relvars ≡ false) (r : State) (fits : IsWellMade r) (alike : Alike (lacks r) w.relvars r.relvars) (bases : filter is_base r.relvars ≡ filter is_base w.relvars) where
-    values-here : HasValues (lacks r) w.relvars r.relvars
+    pub values-here : HasValues (lacks r) w.relvars r.relvars
     values-here name out = by (relvar_named w.relvars name) (relvar_named r.relvars name) refl refl
       where
         by : (o p : Option PlainRelvar) → relvar_named w.relvars name ≡ o → relvar_named r.relvars name ≡ p → ValueIf o p

@@ -1,6 +1,6 @@
 -- The statements of a dumped script that insert rows are accepted, and give the base relvars their values.
 --     with_rows      the relvars of the second run with the values of the first
---     rows-bases, rows-logless      they have the base relvars of the first, and no log
+--     rows-bases, rows-logless, rows-unstored      they have the base relvars of the first, no log, and no stored view
 --     loadable-rows      its rows can come in
 --     rows-taken      the law
 use Rattle.std.proofs.Common.{◌≡◌, ℕ, ◌+◌, true, false, List, [], refl, sym, ap, ◌∙◌, subst}
@@ -13,6 +13,7 @@ use Rattle.meaning_core.specs.WellMade.{IsWellMade}
 use Rattle.meaning_core.proofs.AcceptedLemmas.{made-counted}
 use Rattle.meaning_core.proofs.LogLemmas.{turned-none}
 use Rattle.meaning_core.proofs.RowlessLemmas.{bare-keeps}
+use Rattle.stored_views.specs.Stored.{has_stored}
 use Rattle.dump_core.specs.Inserts.{rows_a_statement, rows_of_state, HaveRelations}
 use Rattle.dump_core.specs.Texts.{SourceText}
 use Rattle.assign_core.specs.Databases.{IsKept}
@@ -30,8 +31,8 @@ use Rattle.dump_laws.specs.Accepting.{Outcome, TakesAll}
 use Rattle.dump_laws.specs.Bringing.{Brings, CanBring}
 use Rattle.dump_laws.specs.Phases.{StandsEarly, StandsLate}
 use Rattle.dump_laws.specs.Standing.{AreLikeEntries, AreMovedRules}
-use Rattle.dump_laws.proofs.LikeEntries.{like-full, like-bare, like-logless, no-rules, like-emptied, filled-like, filled-rowless}
-use Rattle.dump_laws.proofs.LoggedLaws.{early-logless, loaded-logless}
+use Rattle.dump_laws.proofs.LikeEntries.{like-full, like-bare, like-logless, like-unstored, no-rules, like-emptied, filled-like, filled-rowless}
+use Rattle.dump_laws.proofs.LoadedLaws.{early-logless, loaded-logless, early-unstored}
 use Rattle.dump_laws.proofs.OrderLaws.{none-left, early-rules, early-ordinals}
 
 -- a statement that keeps no text
@@ -60,6 +61,9 @@ module _ (w : State) (ds : List Said) (made : IsMadeOf w ds) (kept : IsKept w) (
 
   pub rows-logless : has_log full ≡ false
   rows-logless = like-logless (filter is_early w.relvars) full (filled-like (filter is_early w.relvars) r.relvars like-early) (early-logless w.relvars)
+
+  pub rows-unstored : has_stored full ≡ false
+  rows-unstored = like-unstored (filter is_early w.relvars) full (filled-like (filter is_early w.relvars) r.relvars like-early) (early-unstored w.relvars)
 
   -- no rows yet
   at-first : r.relvars ≡ loaded 0 0 full

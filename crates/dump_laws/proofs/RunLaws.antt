@@ -12,7 +12,7 @@ use Rattle.point_core.specs.declared.fault.Code.TheVariants.{E10, E21, E45, E46}
 use Rattle.point_core.specs.declared.fault.Place.{Place}
 use Rattle.point_core.specs.Faults.{OrFault}
 use Rattle.value_core.specs.declared.refuse.Refuse.{Refuse}
-use Rattle.value_core.specs.declared.refuse.Refuse.TheVariants.{Broken, Plain as PlainRefusal}
+use Rattle.value_core.specs.declared.refuse.Refuse.TheVariants.{At, Broken, Plain as PlainRefusal}
 use Rattle.value_core.specs.Limits.{most_statement_bytes}
 use Rattle.value_core.specs.Values.{Name, Relation}
 use Rattle.utd_syntax.specs.Plain as syntax
@@ -28,7 +28,7 @@ use Rattle.dump_core.specs.declared.texts.TextKind.{TextKind}
 use Rattle.dump_core.specs.declared.texts.TextKind.TheVariants.{Early, Rule}
 use Rattle.dump_core.specs.Texts.{SourceText, forgotten}
 use Rattle.meaning_core.specs.Declarations.{group, without_group, without_rule, with_rule, with_log}
-use Rattle.meaning_core.specs.Logs.{turned_logs}
+use Rattle.meaning_core.specs.Meanings.{RowsMeant, meaning_in}
 use Rattle.meaning_core.specs.Truths.{holds_in, truth_in}
 use Rattle.meaning_core.specs.Updates.{IsTypedItem}
 use Rattle.meaning_core.specs.WellMade.{IsWellMade}
@@ -45,13 +45,13 @@ use Rattle.declaration_typing.specs.Rules.{rule_dropped}
 use Rattle.item_typing.specs.Items.{assignment_typed}
 use Rattle.type_check.specs.Checks.{Plain, declare_log, remove, remove_rule, assign, print, ask, giving, checked, IsTypedPlain}
 use Rattle.type_check.proofs.CheckLemmas.{checked-typed}
-use Rattle.typing_laws.specs.Saying.{Said, said_ordinal, said_base, said_view, said_history, said_rule, IsDeclaration, plain_of, with_said}
-use Rattle.typing_laws.proofs.SaidLaws.{with-ordinal, with-base, with-view, with-history, with-said-rule}
+use Rattle.typing_laws.specs.Saying.{Said, said_ordinal, said_base, said_view, said_stored, said_history, said_rule, IsDeclaration, plain_of, with_said}
+use Rattle.typing_laws.proofs.SaidLaws.{with-ordinal, with-base, with-view, with-stored, with-history, with-said-rule}
 use Rattle.typing_laws.proofs.SayingLaws.{checked-says}
 use Rattle.assign_core.specs.Assignments.{assigned_in}
 use Rattle.assign_core.specs.Databases.{no_relvars}
 use Rattle.assign_core.specs.Items.{assignments_of}
-use Rattle.assign_core.specs.Logs.{have_room}
+use Rattle.assign_core.specs.Room.{have_room, with_stored, stored_if}
 use Rattle.utd_statement.specs.Answers.{Answer, Done, Changed, made_by, Table, Truth, Refusal, unless_fault, relation_in, unless_refused, if_allowed, of_checked, of_tree, answer, is_accepted, state_after}
 use Rattle.utd_statement.specs.Keeping.{Keeping, Keeps, Forgets, Leaves, kind_of, keeping_of, settled}
 use Rattle.utd_statement.specs.Readings.{Reading, Refused, IsText}
@@ -168,7 +168,7 @@ module _ (w : State) (texts : List SourceText) (ds : List Said) (is : IsStanding
 
   logged-kept : (bytes : List ℕ) (l source t : Word) (r : OrFault LogData) → log_declared w l source t ≡ r → IfOk (giving declare_log r) (IsTypedPlain w)
       → IsKeptBy w texts Leaves bytes (unless_fault (of_checked w) (giving declare_log r))
-  logged-kept bytes l source t (Ok d) e typed = opened-kept bytes l source t d e typed.made (have_room (turned_logs (with_log w d).relvars)) (PlainRefusal E46)
+  logged-kept bytes l source t (Ok d) e typed = opened-kept bytes l source t d e typed.made (have_room (with_log w d).relvars) (PlainRefusal E46)
   logged-kept bytes l source t (Err fault) e typed = (ds, is)
 
   -- ---- declarations
@@ -181,10 +181,19 @@ module _ (w : State) (texts : List SourceText) (ds : List Said) (is : IsStanding
   rule-done name t true = inl (ap Changed (with-said-rule w name t))
   rule-done name t false = inr (_, refl)
 
+  room-done : (name : Name) (t : Tree) (b : Bool) (refuse : Refuse) → IsDoneBy (said_stored name t) (if_allowed (cond b (Ok (with_stored w name t)) (Err refuse)))
+  room-done name t true refuse = inl (ap Changed (with-stored w name t))
+  room-done name t false refuse = inr (refuse, refl)
+
+  stored-done : (name : Name) (t : Tree) (meant : RowsMeant) → IsDoneBy (said_stored name t) (if_allowed (stored_if meant w name t))
+  stored-done name t (Ok rows) = room-done name t (have_room (with_stored w name t).relvars) (PlainRefusal E46)
+  stored-done name t (Err fault) = inr (At fault, refl)
+
   said-done : (d : Said) → IsDoneBy d (of_checked w (plain_of d))
   said-done (said_ordinal name names) = inl (ap Changed (with-ordinal w name names))
   said-done (said_base name heading typed) = inl (ap Changed (with-base w name heading typed))
   said-done (said_view name t) = inl (ap Changed (with-view w name t))
+  said-done (said_stored name t) = stored-done name t (meaning_in w.relvars t)
   said-done (said_history h) = inl (ap Changed (with-history w h))
   said-done (said_rule name t) = rule-done name t (holds_in w.relvars t)
 
@@ -193,6 +202,7 @@ module _ (w : State) (texts : List SourceText) (ds : List Said) (is : IsStanding
   said-made (said_ordinal name names) typed = subst IsWellMade (with-ordinal w name names) typed
   said-made (said_base name heading cs) typed = subst IsWellMade (with-base w name heading cs) typed
   said-made (said_view name t) typed = subst IsWellMade (with-view w name t) typed
+  said-made (said_stored name t) typed = subst IsWellMade (with-stored w name t) typed.0
   said-made (said_history h) typed = subst IsWellMade (with-history w h) (history-made w h is.made typed)
   said-made (said_rule name t) typed = subst IsWellMade (with-said-rule w name t) typed.0
 

@@ -43,7 +43,7 @@ use Rattle.text_laws.specs.Sayable.{is_sayable}
 use Rattle.text_laws.proofs.TextLaws.{written-names}
 use Rattle.row_typing_laws.proofs.HeadingNames.{name-written, new-name-written}
 use Rattle.row_typing_laws.proofs.Parts.{parts-of, check-holds, check-gives}
-use Rattle.typing_laws.specs.Saying.{Said, said_ordinal, said_base, said_view, said_history, said_rule, Says, IsSaidHistory, entries_said, ordinals_said}
+use Rattle.typing_laws.specs.Saying.{Said, said_ordinal, said_base, said_view, said_stored, said_history, said_rule, Says, IsSaidHistory, entries_said, ordinals_said}
 use Rattle.dump_laws.specs.Kept.{IsTextOf, AreTexts, AreTextsFrom, IsListedAs, IsMadeOf}
 use Rattle.part_laws.specs.Parts.{emptied}
 use Rattle.dump_laws.specs.SayableNames.{IsSayable, AreSayableIn, AreSayableSaid, IsSayableType, IsSayableRelvar, HasSayableNames}
@@ -174,6 +174,7 @@ says-sayable s (syntax.DeclareOrdinal at w values) (said_ordinal name names) say
 says-sayable s (syntax.DeclareRelvar at w (syntax.BaseRelvar there h cs)) (said_base name heading typed) says in' =
     (word-sayable w name says.0 in'.0, All-In (λ (a : Name × Kind). IsSayable a.0) heading (heading-sayable s.ordinals h heading says.1 in'.1.0))
 says-sayable s (syntax.DeclareRelvar at w (syntax.View there rel)) (said_view name t) says in' = word-sayable w name says.0 in'.0
+says-sayable s (syntax.DeclareRelvar at w (syntax.Kept there kept)) (said_stored name t) says in' = word-sayable w name says.view in'.0
 says-sayable s (syntax.DeclareHistory at v h key b p d i t) (said_history made) says in' = history-sayable s at v h key b p d i t made says in'
 says-sayable s (syntax.DeclareRule at w test) (said_rule name t) says in' = word-sayable w name says.0 in'.0
 says-sayable s _ _ says in' = absurd says
@@ -196,6 +197,7 @@ ordinal-sayable : (o : OrdinalNames) (d : Said) → AreSayableSaid d → In o (o
 ordinal-sayable o (said_ordinal name names) held i = elim i [ inl k ↦ subst IsSayableType (sym k) held | inr k ↦ absurd k ]
 ordinal-sayable o (said_base name heading typed) held i = absurd i
 ordinal-sayable o (said_view name t) held i = absurd i
+ordinal-sayable o (said_stored name t) held i = absurd i
 ordinal-sayable o (said_history made) held i = absurd i
 ordinal-sayable o (said_rule name t) held i = absurd i
 
@@ -206,6 +208,7 @@ entry-sayable : (e : Name × PlainRelvar) (d : Said) → AreSayableSaid d → In
 entry-sayable e (said_ordinal name names) held i = absurd i
 entry-sayable e (said_base name heading typed) held i = elim i [ inl k ↦ subst Sayable (sym k) held | inr k ↦ absurd k ]
 entry-sayable e (said_view name t) held i = elim i [ inl k ↦ subst Sayable (sym k) held | inr k ↦ absurd k ]
+entry-sayable e (said_stored name t) held i = elim i [ inl k ↦ subst Sayable (sym k) held | inr k ↦ absurd k ]
 entry-sayable e (said_history made) held i = elim i [
   | inl k ↦ subst Sayable (sym k) (held.0, held.3)
   | inr j ↦ elim j [

@@ -9,6 +9,7 @@ use Rattle.meaning_core.specs.Logs.{has_log}
 use Rattle.meaning_core.specs.WellMade.{IsWellMade}
 use Rattle.assign_core.specs.Databases.{no_relvars}
 use Rattle.assign_core.specs.Databases.{IsKept}
+use Rattle.assign_core.specs.Room.{HasStoredRoom}
 use Rattle.dump_core.specs.declared.texts.TextKind.TheVariants.{Early, View, Rule}
 use Rattle.dump_core.specs.Dumps.{statements_of}
 use Rattle.dump_core.specs.Inserts.{HaveRelations, rows_of_state}
@@ -32,7 +33,7 @@ use Rattle.dump_laws.proofs.StandingLaws.{none-stand}
 
 module _ (text-step : TextStep) (keeps-made : KeepsMade) (empty-made : IsWellMade no_relvars) (w : State) (texts : List SourceText) (ds : List Said) (said : AreTexts w texts ds)
     (made : IsMadeOf w ds) (kept : IsKept w)
-    (relations : HaveRelations w.relvars) (none : has_log w.relvars ≡ false) (can : (r : State) → StandsEarly (filter is_early_said ds) r → CanBring w.ordinals (with_rows w r))
+    (relations : HaveRelations w.relvars) (room : HasStoredRoom w) (none : has_log w.relvars ≡ false) (can : (r : State) → StandsEarly (filter is_early_said ds) r → CanBring w.ordinals (with_rows w r))
   where
     -- all is declared, and the texts are those of the first run, in the order of the script
     abbrev pub Behind : Outcome
@@ -63,7 +64,7 @@ module _ (text-step : TextStep) (keeps-made : KeepsMade) (empty-made : IsWellMad
     from-views : (r : State) → StandsLate w (early_said ds) r → TakesAll (of_kind View texts ++ of_kind Rule texts) r (texts_of_kind Early texts) Behind
     from-views r h =
         all-more (of_kind View texts) (of_kind Rule texts) r (texts_of_kind Early texts) Behind
-        (views-taken text-step keeps-made w ds made kept.well_made none (texts_of_kind View texts) r (texts_of_kind Early texts)
+        (views-taken text-step keeps-made w ds made kept.well_made none room (texts_of_kind View texts) r (texts_of_kind Early texts)
         (λ next more. TakesAll (of_kind Rule texts) next more Behind) h views-here from-rules)
 
     -- behind the texts before the rows

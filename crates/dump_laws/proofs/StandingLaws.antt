@@ -5,7 +5,7 @@
 --     alike-so-far      each name that it has stands for the like
 --     stands-for      it has the names of what was declared
 --     free-so-far      the names of what is still to be declared are free
---     apart-so-far      what it has names none that it lacks
+--     apart-one, apart-so-far      what it has names none that it lacks
 use Rattle.std.proofs.Common.{◌≡◌, inl, inr, Bool, true, false, not, cond, List, [], ◌∷◌, ◌++◌, map, refl, sym, ap, ap₂, ◌∙◌, subst, Option, Some, None}
 use Rattle.std.specs.Prelude.{is_none, is_some, ◌||◌}
 use Rattle.std.specs.List.{flat_map, list_any, IsDistinct}
@@ -33,7 +33,7 @@ use Rattle.meaning_laws.proofs.LikeLemmas.{like-moved}
 use Rattle.meaning_laws.proofs.TypedAlike.{StandsLike, like-there}
 use Rattle.declaration_typing.specs.Names.{is_taken, is_rule}
 use Rattle.assign_core.specs.Parts.{names_in}
-use Rattle.typing_laws.specs.Saying.{Said, said_ordinal, said_base, said_view, said_history, said_rule, names_said, moved_said, entries_said, ordinals_said, rules_said, with_said, IsFree}
+use Rattle.typing_laws.specs.Saying.{Said, said_ordinal, said_base, said_view, said_stored, said_history, said_rule, names_said, moved_said, entries_said, ordinals_said, rules_said, with_said, IsFree}
 use Rattle.typing_laws.proofs.SaidLaws.{said-moved-entries, said-moved-ordinals}
 use Rattle.dump_laws.specs.Kept.{IsListedAs}
 use Rattle.part_laws.specs.Parts.{without_rows}
@@ -53,6 +53,7 @@ moved-rules : (f : Place → Place) (d : Said) → AreMovedRules (rules_said d) 
 moved-rules f (said_ordinal name names) = tt
 moved-rules f (said_base name heading typed) = tt
 moved-rules f (said_view name t) = tt
+moved-rules f (said_stored name t) = tt
 moved-rules f (said_history made) = tt
 moved-rules f (said_rule name t) = ((refl, (f, refl)), tt)
 
@@ -102,6 +103,7 @@ ordinal-name : (o : OrdinalNames) (d : Said) → In o (ordinals_said d) → In o
 ordinal-name o (said_ordinal name names) i = elim i [ inl k ↦ inl (ap (λ (x : OrdinalNames). x.name) k) | inr k ↦ absurd k ]
 ordinal-name o (said_base name heading typed) i = absurd i
 ordinal-name o (said_view name t) i = absurd i
+ordinal-name o (said_stored name t) i = absurd i
 ordinal-name o (said_history made) i = absurd i
 ordinal-name o (said_rule name t) i = absurd i
 
@@ -199,7 +201,7 @@ apart-in some (k ∷ es) e apart i q = elim i [
 ]
 
 module _ (w r : State) (well : IsWellMade r) (differ : IsDistinct bytes_eq (names_in w.relvars)) (alike : Alike (lacks r) w.relvars r.relvars) where
-  apart-one : (x : Name × PlainRelvar) → In x w.relvars → lacks r x.0 ≡ false → view_names (lacks r) x.1 ≡ false
+  pub apart-one : (x : Name × PlainRelvar) → In x w.relvars → lacks r x.0 ≡ false → view_names (lacks r) x.1 ≡ false
   apart-one x i q =
       let s : StandsLike x.1 (relvar_named r.relvars x.0) = like-there (lacks r) w.relvars r.relvars alike x.0 x.1 q (named-once w.relvars x i differ) in
       let there : In (x.0, s.0) r.relvars = named-in r.relvars x.0 s.0 s.1 in

@@ -2,10 +2,10 @@
 --     entries-number      how many relvars and views are said at most
 --     has-room      what is said stays below the limits, by numbers
 --     entry-typed      an entry of the final state is well made behind those before it
---     view-typed, rule-typed      a view and a database constraint that are said are typed for the final state
+--     tree-typed, rule-typed      a view of the final state, and a database constraint that is said, are typed for it
 --     step-for      a text can be declared, where what it names is known and it holds
 --     alike-here      each name that it has stands for the like
-use Rattle.std.proofs.Common.{◌≡◌, inl, ℕ, ◌+◌, ◌≤◌, false, List, [], ◌∷◌, ◌++◌, map, length, refl, sym, ap, ◌∙◌, subst, None, arith, length-append}
+use Rattle.std.proofs.Common.{◌≡◌, inl, ℕ, ◌+◌, ◌≤◌, false, List, [], ◌∷◌, ◌++◌, map, length, refl, sym, ap, ◌∙◌, subst, arith, length-append}
 use Rattle.std.specs.List.{filter, flat_map, IsDistinct}
 use Rattle.std.specs.Str.{bytes_eq}
 use Rattle.std.proofs.lemmas.List.{length-map}
@@ -17,16 +17,19 @@ use Rattle.point_core.specs.declared.fault.Place.{Place}
 use Rattle.value_core.specs.declared.list.OrdinalNames.{OrdinalNames}
 use Rattle.value_core.specs.Limits.{most_ordinal_types, most_relvars, most_nodes, most_rules}
 use Rattle.value_core.specs.Values.{Name}
-use Rattle.tree_core.specs.Relvars.{State, PlainRelvar, base, view, Entries, log, derived}
+use Rattle.tree_core.specs.Relvars.{State, PlainKind, PlainRelvar, base, view, Entries, log, derived, stored}
 use Rattle.tree_core.specs.Trees.{Tree, Test}
+use Rattle.tree_core.specs.Uses.{names_any}
 use Rattle.meaning_core.specs.Typing.{IsTypedTree}
 use Rattle.meaning_core.specs.WellMade.{sizes_of, headings_of, IsRelvar, AreRelvars, IsWellMade, IsTypedFor, IsTypedTestFor}
 use Rattle.meaning_core.proofs.StaysTyped.{tree-behind}
 use Rattle.meaning_laws.specs.Likeness.{Alike}
+use Rattle.meaning_laws.specs.Moved.{moved_tree}
 use Rattle.meaning_laws.proofs.EntriesFound.{relvar-at}
+use Rattle.declaration_typing.specs.Nodes.{nodes_of}
 use Rattle.dump_core.specs.Texts.{SourceText}
 use Rattle.assign_core.proofs.NameLemmas.{relvars_differ}
-use Rattle.typing_laws.specs.Saying.{Said, said_ordinal, said_base, said_view, said_history, said_rule, names_said, moved_said, said_names_any, entries_said, ordinals_said, rules_said, IsFree, HasRoom}
+use Rattle.typing_laws.specs.Saying.{Said, said_ordinal, said_base, said_view, said_stored, said_history, said_rule, names_said, moved_said, said_names_any, entries_said, ordinals_said, rules_said, IsFree, HasRoom}
 use Rattle.typing_laws.proofs.LogsAlike.{logs-alike}
 use Rattle.typing_laws.proofs.NodesAlike.{nodes-alike, test-nodes-alike}
 use Rattle.dump_laws.specs.Kept.{is_early, is_late, IsTextOf, IsSmall, IsMadeOf}
@@ -49,6 +52,7 @@ has-room : (r : State) (d : Said) → length r.ordinals + length (ordinals_said 
 has-room r (said_ordinal name names) a b c f small = omega (arith, a)
 has-room r (said_base name heading typed) a b c f small = omega (arith, b)
 has-room r (said_view name t) a b c f small = (omega (arith, b), small)
+has-room r (said_stored name t) a b c f small = (omega (arith, b), small)
 has-room r (said_history made) a b c f small = omega (arith, b)
 has-room r (said_rule name t) a b c f small = (small, omega (arith, c))
 
@@ -71,19 +75,25 @@ module _ (w : State) (ds : List Said) (made : IsMadeOf w ds) (well : IsWellMade 
       let s = split-at x w.relvars i in
       (s.0, s.1, s.2, relvar-at (sizes_of w.ordinals) [] s.0 s.1 x (subst (AreRelvars (sizes_of w.ordinals) []) s.2 well.relvars))
 
-  pub view-typed : (name : Name) (t : Tree) → In (said_view name t) ds → IsTypedFor w t
-  view-typed name t i =
-      let z = entry-in w ds (listed-of w ds made) (name, view t derived) (said_view name t) i (inl refl) in
-      from z.0 z.1 (ap (λ (x : Name × PlainRelvar). x.1) z.2)
+  pub tree-typed : (n : Name) (t : Tree) (kind : PlainKind) → In (n, view t kind) w.relvars → IsTypedFor w t
+  tree-typed n t kind i =
+      let here = entry-typed (n, view t kind) i in
+      let typed = tree-behind (sizes_of w.ordinals) here.0 ((n, view t kind) ∷ here.1) t here.3.0 in
+      subst (λ (es : Entries). IsTypedTree (sizes_of w.ordinals) (headings_of es) t) (sym here.2) typed
+
+  -- a view that is said stands there
+  pub view-there : (name : Name) (t : Tree) (kind : PlainKind) (d : Said) → In d ds → In (name, view t kind) (entries_said d) → In (name, view t kind) w.relvars
+  view-there name t kind d i j =
+      let z = entry-in w ds (listed-of w ds made) (name, view t kind) d i j in
+      from z.0 z.1 z.2 (ap (λ (x : Name × PlainRelvar). x.1) z.2)
     where
-      from : (x : Name × PlainRelvar) → In x w.relvars → view t derived ≡ (emptied x).1 → IsTypedFor w t
-      from (n, base v c) j e = absurd (cc)
-      from (n, log o k last w) j e = absurd (cc)
-      from (n, view u kind) j e =
-          let same : t ≡ u = cc in
-          let here = entry-typed (n, view u kind) j in
-          let typed = tree-behind (sizes_of w.ordinals) here.0 ((n, view u kind) ∷ here.1) u here.3.0 in
-          subst (λ (k : Tree). IsTypedFor w k) (sym same) (subst (λ (es : Entries). IsTypedTree (sizes_of w.ordinals) (headings_of es) u) (sym here.2) typed)
+      from : (x : Name × PlainRelvar) → In x w.relvars → (name, view t kind) ≡ emptied x → view t kind ≡ (emptied x).1 → In (name, view t kind) w.relvars
+      from (n, base v c) k e q = absurd (cc)
+      from (n, log o side last v) k e q = absurd (cc)
+      from (n, view u other) k e q = subst (λ (x : Name × PlainRelvar). In x w.relvars) (sym e) k
+
+  view-typed : (name : Name) (t : Tree) (kind : PlainKind) (d : Said) → In d ds → In (name, view t kind) (entries_said d) → IsTypedFor w t
+  view-typed name t kind d i j = tree-typed name t kind (view-there name t kind d i j)
 
   pub rule-typed : (name : Name) (t : Test) → In (said_rule name t) ds → IsTypedTestFor w t
   rule-typed name t i =
@@ -141,15 +151,18 @@ module _ (w : State) (ds : List Said) (made : IsMadeOf w ds) (well : IsWellMade 
         let limit = made.few_rules in
         omega (arith, most, all, now, limit)
 
+    tree-small : (t : Tree) → IsTypedFor w t → names_any (lacks r) t ≡ false → nodes_of w.relvars t ≤ most_nodes → (f : Place → Place) → nodes_of r.relvars (moved_tree f t) ≤ most_nodes
+    tree-small t typed known le f =
+        subst (λ (n : ℕ). n ≤ most_nodes)
+        (nodes-alike (lacks r) (sizes_of w.ordinals) (sizes_of r.ordinals) w.relvars r.relvars well.relvars fits.relvars alike-here
+        (apart-so-far w r fits (relvars_differ w well) alike-here) f (sizes_of w.ordinals) t known typed)
+        le
+
     small : (e : Said) → In e ds → said_names_any (lacks r) e ≡ false → IsSmall w e → (f : Place → Place) → IsSmall r (moved_said f e)
     small (said_ordinal name names) i known le f = tt
     small (said_base name heading typed) i known le f = tt
-    small (said_view name t) i known le f =
-        subst (λ (n : ℕ). n ≤ most_nodes)
-        (nodes-alike (lacks r) (sizes_of w.ordinals) (sizes_of r.ordinals) w.relvars r.relvars well.relvars fits.relvars alike-here
-        (apart-so-far w r fits (relvars_differ w well) alike-here) f (sizes_of w.ordinals) t known
-        (view-typed name t i))
-        le
+    small (said_view name t) i known le f = tree-small t (view-typed name t derived (said_view name t) i (inl refl)) known le f
+    small (said_stored name t) i known le f = tree-small t (view-typed name t stored (said_stored name t) i (inl refl)) known le f
     small (said_history made) i known le f = tt
     small (said_rule name t) i known le f =
         subst (λ (n : ℕ). n ≤ most_nodes)
@@ -163,6 +176,7 @@ module _ (w : State) (ds : List Said) (made : IsMadeOf w ds) (well : IsWellMade 
         → IsStepFor w r types more t d
     step-for t types more same text known held = record {
       text = text;
+      fits = fits;
       ordinals = stands.ordinals ∙ same;
       alike = alike-here;
       logs = logs-alike (lacks r) (sizes_of w.ordinals) (sizes_of r.ordinals) w.relvars r.relvars well.relvars fits.relvars alike-here

@@ -18,7 +18,7 @@ use Rattle.utd_syntax.specs.Plain.{Word, VarFormP, StatementP}
 use Rattle.utd_statement.specs.Keeping.{Keeping, Keeps, Forgets, Leaves, kind_of, keeping_of}
 use Rattle.meaning_core.proofs.MadeLemmas.{own_name}
 use Rattle.row_typing_laws.proofs.HeadingNames.{name-written}
-use Rattle.typing_laws.specs.Saying.{Said, said_ordinal, said_base, said_view, said_history, said_rule, Says, names_said, ordinals_said}
+use Rattle.typing_laws.specs.Saying.{Said, said_ordinal, said_base, said_view, said_stored, said_history, said_rule, Says, names_said, ordinals_said}
 use Rattle.dump_laws.specs.Kept.{kind_said, key_said, IsTextOf, AreTextsFrom}
 
 -- ---- the name and the kind
@@ -47,6 +47,7 @@ ordinal-of : (w : Word) (values : _) (kind : TextKind) (name : Name) (s : State)
 ordinal-of w values kind name s at (said_ordinal own names) e h = of-word w kind Early name own e h.0
 ordinal-of w values kind name s at (said_base own heading typed) e h = absurd h
 ordinal-of w values kind name s at (said_view own t) e h = absurd h
+ordinal-of w values kind name s at (said_stored own t) e h = absurd h
 ordinal-of w values kind name s at (said_history made) e h = absurd h
 ordinal-of w values kind name s at (said_rule own t) e h = absurd h
 
@@ -55,20 +56,28 @@ relvar-of : (w : Word) (form : VarFormP) (kind : TextKind) (name : Name) (s : St
 relvar-of w (syntax.BaseRelvar there h cs) kind name s at (said_ordinal own names) e h2 = absurd h2
 relvar-of w (syntax.BaseRelvar there h cs) kind name s at (said_base own heading typed) e h2 = of-word w kind Early name own e h2.0
 relvar-of w (syntax.BaseRelvar there h cs) kind name s at (said_view own t) e h2 = absurd h2
+relvar-of w (syntax.BaseRelvar there h cs) kind name s at (said_stored own t) e h2 = absurd h2
 relvar-of w (syntax.BaseRelvar there h cs) kind name s at (said_history made) e h2 = absurd h2
 relvar-of w (syntax.BaseRelvar there h cs) kind name s at (said_rule own t) e h2 = absurd h2
 relvar-of w (syntax.View there rel) kind name s at (said_ordinal own names) e h2 = absurd h2
 relvar-of w (syntax.View there rel) kind name s at (said_base own heading typed) e h2 = absurd h2
 relvar-of w (syntax.View there rel) kind name s at (said_view own t) e h2 = of-word w kind View name own e h2.0
+relvar-of w (syntax.View there rel) kind name s at (said_stored own t) e h2 = absurd h2
 relvar-of w (syntax.View there rel) kind name s at (said_history made) e h2 = absurd h2
 relvar-of w (syntax.View there rel) kind name s at (said_rule own t) e h2 = absurd h2
-relvar-of w (syntax.Kept there kept) kind name s at d e h2 = absurd h2
+relvar-of w (syntax.Kept there kept) kind name s at (said_ordinal own names) e h2 = absurd h2
+relvar-of w (syntax.Kept there kept) kind name s at (said_base own heading typed) e h2 = absurd h2
+relvar-of w (syntax.Kept there kept) kind name s at (said_view own t) e h2 = absurd h2
+relvar-of w (syntax.Kept there kept) kind name s at (said_stored own t) e h2 = of-word w kind View name own e h2.view
+relvar-of w (syntax.Kept there kept) kind name s at (said_history made) e h2 = absurd h2
+relvar-of w (syntax.Kept there kept) kind name s at (said_rule own t) e h2 = absurd h2
 
 history-of : (at : _) (v : Word) (h : _) (key : _) (b p d i : Word) (t : _) (kind : TextKind) (name : Name) (s : State) (x : Said) → Keeps Early v.bytes ≡ Keeps kind name
     → Says s (syntax.DeclareHistory at v h key b p d i t) x → IsOf kind name x
 history-of at v h key b p d i t kind name s (said_ordinal own names) e k = absurd k
 history-of at v h key b p d i t kind name s (said_base own heading typed) e k = absurd k
 history-of at v h key b p d i t kind name s (said_view own tree) e k = absurd k
+history-of at v h key b p d i t kind name s (said_stored own tree) e k = absurd k
 history-of at v h key b p d i t kind name s (said_history made) e k = of-word v kind Early name made.view e k.view
 history-of at v h key b p d i t kind name s (said_rule own test) e k = absurd k
 
@@ -76,6 +85,7 @@ rule-of : (w : Word) (test : _) (kind : TextKind) (name : Name) (s : State) (at 
 rule-of w test kind name s at (said_ordinal own names) e h = absurd h
 rule-of w test kind name s at (said_base own heading typed) e h = absurd h
 rule-of w test kind name s at (said_view own t) e h = absurd h
+rule-of w test kind name s at (said_stored own t) e h = absurd h
 rule-of w test kind name s at (said_history made) e h = absurd h
 rule-of w test kind name s at (said_rule own t) e h = of-word w kind Rule name own e h.0
 
@@ -103,6 +113,7 @@ pub key-name : (d : Said) → In (key_said d) (names_said d)
 key-name (said_ordinal name names) = inl refl
 key-name (said_base name heading typed) = inl refl
 key-name (said_view name t) = inl refl
+key-name (said_stored name t) = inl refl
 key-name (said_history made) = inr (inr (inl refl))
 key-name (said_rule name t) = inl refl
 

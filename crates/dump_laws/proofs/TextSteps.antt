@@ -3,9 +3,10 @@
 --     of-said      what type checking gives is added to the state
 --     text-first-step, text-later-step      the law
 --     declared-text, declared-accepted      what is told of such a statement
-use Rattle.std.proofs.Common.{◌≡◌, ℕ, Bool, true, cond, List, [], ◌∷◌, ◌++◌, Ok, Err, refl, sym, ap, ◌∙◌, subst}
+use Rattle.std.proofs.Common.{◌≡◌, ℕ, Bool, true, cond, List, [], ◌∷◌, ◌++◌, Ok, Err, IfOk, refl, sym, ap, ◌∙◌, subst}
 use Rattle.point_core.specs.declared.fault.Place.{Place}
 use Rattle.point_core.specs.declared.fault.Code.TheVariants.{E45}
+use Rattle.point_core.specs.Faults.{OrFault}
 use Rattle.value_core.specs.declared.list.OrdinalNames.{OrdinalNames}
 use Rattle.value_core.specs.declared.refuse.Refuse.TheVariants.{Broken}
 use Rattle.tree_core.specs.Relvars.{State}
@@ -14,7 +15,8 @@ use Rattle.dump_core.specs.Texts.{SourceText, kept}
 use Rattle.utd_lexer.specs.Gaps.{without_gaps}
 use Rattle.utd_syntax.specs.Plain as syntax
 use Rattle.utd_syntax.specs.Plain.{StatementP}
-use Rattle.type_check.specs.Checks.{checked}
+use Rattle.type_check.specs.Checks.{Plain, checked, IsTypedPlain}
+use Rattle.type_check.proofs.CheckLemmas.{checked-typed}
 use Rattle.utd_statement.specs.Answers.{Changed, answer, of_checked, of_tree, unless_fault, if_allowed, is_accepted}
 use Rattle.utd_statement.specs.Keeping.{Keeping, keeping_of, settled, texts_after}
 use Rattle.utd_statement.specs.Readings.{Tree as TreeOf, IsText}
@@ -23,8 +25,8 @@ use Rattle.text_laws.specs.Statements.{IsOneStatement}
 use Rattle.text_laws.proofs.GapFronts.{gaps-once, gaps-behind}
 use Rattle.text_laws.proofs.OneStatements.{one-begun, one-behind}
 use Rattle.text_laws.proofs.TextLaws.{text-first, text-later}
-use Rattle.typing_laws.specs.Saying.{Said, said_ordinal, said_base, said_view, said_history, said_rule, moved_said, plain_of, IsFree, with_said}
-use Rattle.typing_laws.proofs.SaidLaws.{said-moved-names, with-ordinal, with-base, with-view, with-history, with-said-rule}
+use Rattle.typing_laws.specs.Saying.{Said, said_ordinal, said_base, said_view, said_stored, said_history, said_rule, moved_said, plain_of, IsFree, with_said}
+use Rattle.typing_laws.proofs.SaidLaws.{said-moved-names, with-ordinal, with-base, with-view, with-stored, with-history, with-said-rule}
 use Rattle.typing_laws.proofs.SaysElsewhere.{says-elsewhere}
 use Rattle.typing_laws.proofs.SayingLaws.{says-checked}
 use Rattle.dump_laws.specs.Replays.{lacks, IsHeld, IsStepFor, Declares}
@@ -48,12 +50,13 @@ keeping-moved f (syntax.Assignment assignment) = refl
 
 -- ---- what is added to the state
 
-pub of-said : (r : State) (d : Said) → IsHeld r d → of_checked r (plain_of d) ≡ Changed (with_said r d)
-of-said r (said_ordinal name names) h = ap Changed (with-ordinal r name names)
-of-said r (said_base name heading typed) h = ap Changed (with-base r name heading typed)
-of-said r (said_view name t) h = ap Changed (with-view r name t)
-of-said r (said_history made) h = ap Changed (with-history r made)
-of-said r (said_rule name t) h = ap (λ (b : Bool). if_allowed (cond b (Ok (with_rule name t r)) (Err (Broken E45 name 0)))) h ∙ ap Changed (with-said-rule r name t)
+pub of-said : (r : State) (d : Said) → IsTypedPlain r (plain_of d) → IsHeld r d → of_checked r (plain_of d) ≡ Changed (with_said r d)
+of-said r (said_ordinal name names) typed h = ap Changed (with-ordinal r name names)
+of-said r (said_base name heading cs) typed h = ap Changed (with-base r name heading cs)
+of-said r (said_view name t) typed h = ap Changed (with-view r name t)
+of-said r (said_stored name t) typed h = ap if_allowed (h typed.0) ∙ ap Changed (with-stored r name t)
+of-said r (said_history made) typed h = ap Changed (with-history r made)
+of-said r (said_rule name t) typed h = ap (λ (b : Bool). if_allowed (cond b (Ok (with_rule name t r)) (Err (Broken E45 name 0)))) h ∙ ap Changed (with-said-rule r name t)
 
 -- ---- the law
 
@@ -64,8 +67,12 @@ module _ (w r : State) (types more : List OrdinalNames) (t : SourceText) (d : Sa
       let says = says-elsewhere (lacks r) f (record w { ordinals = types }) r more is.alike is.ordinals is.logs is.text.tree d is.known is.text.says in
       says-checked r (moved_statement f is.text.tree) (moved_said f d) says (subst (IsFree r) (sym (said-moved-names f d)) is.free) (is.room f)
 
+  -- what is given can be performed
+  plain-moved : (f : Place → Place) → IsTypedPlain r (plain_of (moved_said f d))
+  plain-moved f = subst (λ (p : OrFault Plain). IfOk p (IsTypedPlain r)) (typed-moved f) (checked-typed r is.fits (moved_statement f is.text.tree))
+
   answered-moved : (f : Place → Place) → of_tree r (moved_statement f is.text.tree) ≡ Changed (with_said r (moved_said f d))
-  answered-moved f = ap (unless_fault (of_checked r)) (typed-moved f) ∙ of-said r (moved_said f d) (is.held f)
+  answered-moved f = ap (unless_fault (of_checked r)) (typed-moved f) ∙ of-said r (moved_said f d) (plain-moved f) (is.held f)
 
   declares : (q : Place) (bytes : List ℕ) (f : Place → Place) → IsText q bytes (TreeOf (moved_statement f is.text.tree)) → without_gaps bytes ≡ t.bytes → IsOneStatement bytes
       → Declares q bytes r t d

@@ -10,6 +10,7 @@ use Rattle.tree_core.specs.Relvars.{State}
 use Rattle.tree_core.specs.declared.relvar.Relvars.{Relvars as Database}
 use Rattle.meaning_core.specs.Logs.{has_log}
 use Rattle.assign_core.specs.Databases.{IsKept}
+use Rattle.assign_core.specs.Room.{HasStoredRoom}
 use Rattle.meaning_laws.specs.Likeness.{Alike}
 use Rattle.dump_core.specs.Texts.{SourceText}
 use Rattle.dump_core.specs.Inserts.{HaveRelations}
@@ -23,9 +24,9 @@ use Rattle.utd_session.specs.Texts.{AreTextsOf}
 use Rattle.dump_laws.specs.Kept.{is_early, is_late}
 use Rattle.dump_laws.specs.Standing.{AreLikeEntries, AreMovedRules}
 
--- all that a database keeps, and each value of a base relvar is a relation
+-- all that a database keeps, each value of a base relvar is a relation, and stored views have room
 abbrev pub IsSound : State → Type 0
-IsSound w = IsKept w × HaveRelations w.relvars
+IsSound w = IsKept w × HaveRelations w.relvars × HasStoredRoom w
 
 -- The same ordinal types, and the same base relvars with the same values and constraints, each in the same order. Places aside, the same
 -- views: those of histories in the same order among the base relvars, the others in the same order among themselves. Places aside, the

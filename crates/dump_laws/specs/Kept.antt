@@ -5,7 +5,7 @@
 --     is_early_said, is_view_said      whether something is said by a text that stands before all rows, or by one of a view
 --     IsListedAs      a state has just what is said, values of its base relvars, and logs
 --     IsSmall, IsMadeOf      the same, and all stays below the limits
-use Rattle.std.specs.Prelude.{◌≡◌, ◌≤◌, ℕ, Bool, true, false, List, [], ◌∷◌, ◌++◌, length, map, Some, None}
+use Rattle.std.specs.Prelude.{◌≡◌, ◌≤◌, ℕ, Bool, true, false, List, [], ◌∷◌, ◌++◌, length, map}
 use Rattle.std.specs.List.{All, filter, flat_map, IsDistinct}
 use Rattle.std.specs.Str.{bytes_eq}
 use Rattle.point_core.specs.declared.fault.Place.{Place}
@@ -23,7 +23,7 @@ use Rattle.utd_syntax.specs.Plain.{StatementP}
 use Rattle.utd_statement.specs.Keeping.{Keeps, keeping_of}
 use Rattle.utd_statement.specs.Readings.{Tree as TreeOf, IsText}
 use Rattle.text_laws.specs.Statements.{IsOneStatement}
-use Rattle.typing_laws.specs.Saying.{Said, said_ordinal, said_base, said_view, said_history, said_rule, Says, names_said, entries_said, ordinals_said, rules_said}
+use Rattle.typing_laws.specs.Saying.{Said, said_ordinal, said_base, said_view, said_stored, said_history, said_rule, Says, names_said, entries_said, ordinals_said, rules_said}
 
 -- ---- texts
 
@@ -32,6 +32,7 @@ abbrev pub kind_said : Said → TextKind
 kind_said (said_ordinal name names) = Early
 kind_said (said_base name heading typed) = Early
 kind_said (said_view name t) = View
+kind_said (said_stored name t) = View
 kind_said (said_history made) = Early
 kind_said (said_rule name t) = Rule
 
@@ -40,6 +41,7 @@ abbrev pub key_said : Said → Name
 key_said (said_ordinal name names) = name
 key_said (said_base name heading typed) = name
 key_said (said_view name t) = name
+key_said (said_stored name t) = name
 key_said (said_history made) = made.view
 key_said (said_rule name t) = name
 
@@ -110,6 +112,7 @@ abbrev pub IsSmall : State → Said → Type 0
 IsSmall w (said_ordinal name names) = Unit {0}
 IsSmall w (said_base name heading typed) = Unit {0}
 IsSmall w (said_view name t) = nodes_of w.relvars t ≤ most_nodes
+IsSmall w (said_stored name t) = nodes_of w.relvars t ≤ most_nodes
 IsSmall w (said_history made) = Unit {0}
 IsSmall w (said_rule name t) = test_nodes w.relvars t ≤ most_nodes
 

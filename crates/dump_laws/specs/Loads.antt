@@ -7,6 +7,7 @@ use Rattle.value_core.specs.declared.constraint.Constraint.{Constraint}
 use Rattle.value_core.specs.Values.{Name, Relation}
 use Rattle.tree_core.specs.Relvars.{base, Entries, State}
 use Rattle.meaning_core.specs.Logs.{has_log}
+use Rattle.stored_views.specs.Stored.{has_stored}
 use Rattle.utd_syntax.specs.Plain.{StatementP}
 use Rattle.utd_statement.specs.Answers.{Changed, of_tree}
 use Rattle.utd_statement.specs.Keeping.{Leaves, keeping_of}
@@ -16,7 +17,7 @@ use Rattle.constant_texts.specs.Sayable.{AreSayable}
 use Rattle.part_laws.specs.Parts.{loaded, IsAt, IsWholeIfOwn, IsLoadable}
 
 -- The state has the relvars before the i-th with all rows, and the first n rows of the i-th, which has more. So many rows more may come.
--- The names can be written, there is no log, and no database constraint is declared yet.
+-- The names can be written, there is no log and no stored view, and no database constraint is declared yet.
 pub record IsLoadFor (es : Entries) (i n size : ℕ) (name : Name) (v : Relation) (c : List Constraint) (r : State) : Type 0 where
   pub loadable : IsLoadable es
   pub stands : IsAt es i (name, base v c)
@@ -26,6 +27,7 @@ pub record IsLoadFor (es : Entries) (i n size : ℕ) (name : Name) (v : Relation
   pub now : r.relvars ≡ loaded i n es
   pub none : r.rules ≡ []
   pub logless : has_log es ≡ false
+  pub unstored : has_stored es ≡ false
   pub sayable : AreSayable r.ordinals name v.heading
 
 -- From this place on the bytes are read as a statement that keeps no text. It is accepted, and the state has the first n rows of the i-th.

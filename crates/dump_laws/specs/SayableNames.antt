@@ -10,7 +10,7 @@ use Rattle.value_core.specs.Values.{Name, Heading}
 use Rattle.tree_core.specs.Relvars.{State, PlainRelvar, base, view, log}
 use Rattle.since_during.specs.Histories.{since_heading, during_heading}
 use Rattle.text_laws.specs.Sayable.{is_sayable}
-use Rattle.typing_laws.specs.Saying.{Said, said_ordinal, said_base, said_view, said_history, said_rule}
+use Rattle.typing_laws.specs.Saying.{Said, said_ordinal, said_base, said_view, said_stored, said_history, said_rule}
 
 abbrev pub IsSayable : Name → Type 0
 IsSayable name = (is_sayable name ≡ true) × IsNameLength name
@@ -23,6 +23,7 @@ abbrev pub AreSayableSaid : Said → Type 0
 AreSayableSaid (said_ordinal name names) = IsSayable name × All IsSayable names
 AreSayableSaid (said_base name heading typed) = IsSayable name × AreSayableIn heading
 AreSayableSaid (said_view name t) = IsSayable name
+AreSayableSaid (said_stored name t) = IsSayable name
 AreSayableSaid (said_history made) =
     IsSayable made.since × IsSayable made.during × IsSayable made.view × AreSayableIn (since_heading made) × AreSayableIn (during_heading made)
 AreSayableSaid (said_rule name t) = IsSayable name

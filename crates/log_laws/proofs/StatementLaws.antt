@@ -14,13 +14,13 @@ use Rattle.value_core.specs.declared.refuse.Refuse.TheVariants.{Broken, Plain as
 use Rattle.value_core.specs.Values.{Name, Heading, Relation}
 use Rattle.tree_core.specs.declared.declaration.LogData.{LogData}
 use Rattle.tree_core.specs.Items.{PlainItem, PlainAssignment}
-use Rattle.tree_core.specs.Relvars.{State, PlainRelvar, base, view, log, Entries, relvar_named, heading_if, of_history}
-use Rattle.tree_core.specs.Trees.{Test, heading_of}
+use Rattle.tree_core.specs.Relvars.{State, PlainRelvar, base, view, log, Entries, relvar_named, heading_if, of_history, stored}
+use Rattle.tree_core.specs.Trees.{Tree, Test, heading_of}
 use Rattle.tree_core.specs.Uses.{is_one_of}
 use Rattle.meaning_core.specs.Declarations.{PlainDeclaration, ordinal_type, base_relvar, view_relvar, with_declaration, group, without_group, with_rule, without_rule, with_log}
 use Rattle.log_times.specs.Turns.{log_heading}
-use Rattle.meaning_core.specs.Logs.{turned_logs, new_log}
-use Rattle.meaning_core.specs.Meanings.{meaning_in}
+use Rattle.meaning_core.specs.Logs.{new_log}
+use Rattle.meaning_core.specs.Meanings.{RowsMeant, meaning_in}
 use Rattle.meaning_core.specs.Names.{given}
 use Rattle.meaning_core.specs.Truths.{holds_in, truth_in}
 use Rattle.meaning_core.specs.Typing.{Headings, IsTypedTree}
@@ -32,17 +32,16 @@ use Rattle.tree_core.specs.declared.declaration.HistoryData.{HistoryData}
 use Rattle.since_during.specs.Histories.{since_heading, during_heading, since_constraints, during_constraints, view_of, declared_history, declared_in}
 use Rattle.since_during.proofs.HistoryMade.{history-made}
 use Rattle.row_typing_laws.proofs.Parts.{parts-of}
-use Rattle.type_check.specs.Checks.{Plain, nothing, declare_ordinal, declare_base, declare_view, declare_history, declare_log, remove, declare_rule, remove_rule, assign, print, ask, checked, IsTypedPlain}
+use Rattle.type_check.specs.Checks.{Plain, nothing, declare_ordinal, declare_base, declare_view, declare_kept, declare_history, declare_log, remove, declare_rule, remove_rule, assign, print, ask, checked, IsTypedPlain}
 use Rattle.type_check.proofs.CheckLemmas.{checked-typed}
 use Rattle.assign_core.specs.Assignments.{seen_by, source_value, with_target, evaluated, assigned_in}
 use Rattle.assign_core.specs.Breaches.{value_if}
 use Rattle.assign_core.specs.Items.{assignments_of}
-use Rattle.assign_core.specs.Logs.{have_room}
-use Rattle.assign_core.proofs.LogLemmas.{assigned_after}
+use Rattle.assign_core.specs.Room.{have_room, with_stored, stored_if}
 use Rattle.utd_statement.specs.Answers.{Answer, Table, Truth, unless_fault, relation_in, unless_refused, if_allowed, of_checked, answer, made_by}
 use Rattle.utd_statement.specs.Readings.{Reading, Refused}
 use Rattle.utd_statement.specs.Readings as readings
-use Rattle.dump_laws.proofs.AssignedLaws.{names_in, all-typed, bare-given, from-values, names-differ}
+use Rattle.dump_laws.proofs.AssignedLaws.{names_in, all-typed, bare-given, assigned-values, names-differ}
 use Rattle.log_laws.proofs.RowLengths.{HaveLength}
 use Rattle.log_laws.proofs.EntryLengths.{AreLong, IsLongIf, long-named, long-given, long-more, long-some, meant-long}
 use Rattle.log_laws.proofs.KeptLogs.{named-more, logs-more, logs-left, logs-given}
@@ -123,7 +122,7 @@ module _ (s : State) (made : IsWellMade s) (longs : AreLong s.relvars) where
   unfolding AreLogsOf
   assigned-so items typed last e =
       let list : List PlainAssignment = assignments_of s.relvars items in
-      let done = evaluated-so list s.relvars last (all-typed s items made typed) own (from-values s made (evaluated s.relvars s.relvars list) last (assigned_after s list last e)) in
+      let done = evaluated-so list s.relvars last (all-typed s items made typed) own (assigned-values s made list last e) in
       record {
         made = bare-keeps s last done.0.same made;
         long = done.0.long;
@@ -151,6 +150,15 @@ module _ (w : State) (made : IsWellMade w) (longs : AreLong w.relvars) where
     count = refl;
     logs = λ n of side last value e. inl (logs-more w.relvars _ refl n of side last value e);
   }
+
+  -- a stored view is declared, or refused
+  room-so : (name : Name) (t : Tree) → IsWellMade (with_stored w name t) → (b : Bool) → IsMadeSo w (made_by w (if_allowed (cond b (Ok (with_stored w name t)) (Err (PlainRefusal E46)))))
+  room-so name t then true = declared-so (view_relvar name t stored) then
+  room-so name t then false = stays-so
+
+  stored-so : (name : Name) (t : Tree) → IsWellMade (with_stored w name t) → (meant : RowsMeant) → IsMadeSo w (made_by w (if_allowed (stored_if meant w name t)))
+  stored-so name t then (Ok rows) = room-so name t then (have_room (with_stored w name t).relvars)
+  stored-so name t then (Err fault) = stays-so
 
   -- a log is declared
   log-so : (d : LogData) → IsWellMade (with_log w d) → IsMadeSo w (with_log w d)
@@ -230,8 +238,9 @@ module _ (w : State) (made : IsWellMade w) (longs : AreLong w.relvars) where
   plain-so (declare_ordinal d) typed = declared-so d typed
   plain-so (declare_base d) typed = declared-so d typed
   plain-so (declare_view d) typed = declared-so d typed
+  plain-so (declare_kept name t) typed = stored-so name t typed.0 (meaning_in w.relvars t)
   plain-so (declare_history h) typed = history-so h (history-made w h made typed)
-  plain-so (declare_log d) typed = opened-so d typed.made (have_room (turned_logs (with_log w d).relvars)) (PlainRefusal E46)
+  plain-so (declare_log d) typed = opened-so d typed.made (have_room (with_log w d).relvars) (PlainRefusal E46)
   plain-so (remove name) typed = dropped-so name typed
   plain-so (declare_rule name t) typed = rule-so name t typed.0 (holds_in w.relvars t)
   plain-so (remove_rule name) typed = rules-so (without_rule name w) typed refl refl

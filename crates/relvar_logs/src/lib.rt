@@ -10,6 +10,6 @@ mod turning;
 
 pub use changing::{bring_logs, change_log, count_change, room_for_change};
 pub use counting::{has_log, room_beside};
-pub use next::next_logs;
+pub use next::{change_of, next_logs};
 pub use opening::{first_log, open_log};
 pub use turning::count;

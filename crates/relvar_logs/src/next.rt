@@ -114,8 +114,8 @@ fn next_log(
     }
 }
 
-// The new value of the relvar of this name, if it gets one.
-fn change_of<'a>(
+/// The new value of the relvar of this name, if it gets one.
+pub fn change_of<'a>(
     relvars: &Relvars,
     changes: &'a [Option<Relation>],
     name: &Name,

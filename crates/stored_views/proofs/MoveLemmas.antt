@@ -1,7 +1,7 @@
 -- What a stored view gains and loses where its operands get new values.
 --     values_are      the values of the operands
 --     moved_fits, moved_heads, moved_view, moved_told, moved_cost      what the call asks that tells it, what it tells, and what it takes
---     no_items, stays      the view stays as it is where no rows come or go
+--     no_items, stays, exchanged_value      the rows of the view then
 --     next_cost, takes_put, idle_takes      what is taken entry by entry
 use Rattle.std.proofs.Common.{◌≡◌, ℕ, zero, suc, ◌+◌, ◌≤◌, Bool, true, false, cond, nat_eq, nat_le, List, [], ◌∷◌, drop, map, length, refl, sym, ap, ◌∙◌, subst, arith, Option, Some, None, Result, Ok, Err}
 use Rattle.std.specs.Prelude.{slice_get, IfSome, MatchResult}
@@ -21,7 +21,7 @@ use Rattle.tree_core.specs.declared.relvar.Relvar.{Relvar}
 use Rattle.tree_core.specs.Relvars.{Entries, read_entry, read_relvar}
 use Rattle.tree_core.specs.Trees.{Tree, named, literal, infix_of, project, rename, restrict, extend, summarize, pack, unpack, using}
 use Rattle.meaning_core.specs.Meanings.{limited, meaning_in}
-use Rattle.meaning_core.specs.StoredRows.{IsValueOf}
+use Rattle.meaning_core.specs.StoredRows.{IsValueOf, IsValueThere}
 use Rattle.meaning_core.specs.Typing.{Headings, IsTypedTree}
 use Rattle.meaning_core.proofs.LimitLemmas.{limited_few}
 use Rattle.relvar_logs.specs.Changes.{IsSoAt}
@@ -33,7 +33,7 @@ use Rattle.kept_views.specs.Touched.{groups_cost, touched_keys, AreRelations, Ha
 use Rattle.kept_views.proofs.MovedLemmas.{view_after}
 use Rattle.kept_views.proofs.TouchedLemmas.{kept_up}
 use Rattle.stored_views.specs.Moves.{value_or_none, operand_value, left_of_part, right_of_part, left_value, right_value, move_cost, move_cost_if, moves_among, TakesSo}
-use Rattle.stored_views.specs.NextRows.{IsMoveOf}
+use Rattle.stored_views.specs.NextRows.{newer, IsMoveOf}
 use Rattle.stored_views.specs.Operands.{IsValue, ArePartValues, AreValues}
 use Rattle.stored_views.specs.Rules.{rule_for, place_for, IsUnmade}
 use Rattle.stored_views.specs.Stored.{stored_tree}
@@ -196,20 +196,18 @@ stays view gone come is e d =
     let same : rows ≡ united (subtracted rows gone) come = sym ((λ i. united (subtracted rows (e i)) (d i)) ∙ (ap (λ (l : List Row). united l []) kept ∙ all)) in
     λ i. Some (record { heading = view.heading; rows = same i })
 
+-- what it has then is its value
+pub exchanged_value : (all before : Entries) (t : Tree) (view : Relation) (moved : Moved) (next : Option Relation) → IsMoveOf all t view moved → IsValueOf before t view
+    → newer next (Some view) ≡ Some (record { heading = view.heading; rows = united (subtracted view.rows moved.gone.rows) moved.come.rows }) → IsValueThere all t (newer next (Some view))
+exchanged_value all before t view moved next h is e = subst (IsValueThere all t) (sym e) (record { means = h.means; headed = is.headed })
+
 -- ---- what is taken
 
-cost-behind : (before after es : Entries) (i old new most : ℕ) → IsSoAt i (TakesSo before after old new) es → old + moves_among before after (drop i es) ≤ most
-    → new + moves_among before after (drop (suc i) es) ≤ most
-cost-behind before after [] i old new most h l = absurd h
-cost-behind before after (e ∷ es) zero old new most h l = let m = h.most in omega (arith, m, l)
-cost-behind before after (e ∷ es) (suc i) old new most h l = cost-behind before after es i old new most h l
-
 pub next_cost : (before after es : Entries) (i old new most : ℕ) → IsSoAt i (TakesSo before after old new) es → old + moves_among before after (drop i es) ≤ most
-    → (new ≤ most) × (new + moves_among before after (drop (i + 1) es) ≤ most)
-next_cost before after es i old new most h l =
-    let more = cost-behind before after es i old new most h l in
-    let one : suc i ≡ i + 1 = omega arith in
-    (omega (arith, more), subst (λ (k : ℕ). new + moves_among before after (drop k es) ≤ most) one more)
+    → new + moves_among before after (drop (suc i) es) ≤ most
+next_cost before after [] i old new most h l = absurd h
+next_cost before after (e ∷ es) zero old new most h l = let m = h.most in omega (arith, m, l)
+next_cost before after (e ∷ es) (suc i) old new most h l = next_cost before after es i old new most h l
 
 module _ (before after : Entries) (es : List (Name × Relvar)) (i : ℕ) (k : Name) (r : Relvar) (there : slice_get es i ≡ Some (k, r)) where
   pub takes_put : (t : Tree) (old new : ℕ) → Some t ≡ stored_tree (read_relvar r) → new ≤ old + move_cost before after t → IsSoAt i (TakesSo before after old new) (map read_entry es)

@@ -22,10 +22,6 @@ use Rattle.stored_views.proofs.KindLemmas.{meant-changed}
 
 -- ---- the list
 
-one-longer : (next : List (Option Relation)) (n : Option Relation) → length (next ++ n ∷ []) ≡ length next + 1
-one-longer [] n = refl
-one-longer (m ∷ next) n = let h = one-longer next n in omega (arith, h)
-
 module _ (all : Entries) where
   -- these stand ready for the first entries, beside the stored ones
   abbrev pub AreNextOf : List (Option Relation) → List (Option Relation) → Entries → Type 0
@@ -34,23 +30,16 @@ module _ (all : Entries) where
   AreNextOf [] (n ∷ next) (e ∷ es) = IsNextOf all None n e.1 × AreNextOf [] next es
   AreNextOf (o ∷ rows) (n ∷ next) (e ∷ es) = IsNextOf all o n e.1 × AreNextOf rows next es
 
-  one-more : (rows next : List (Option Relation)) (es : Entries) (i : ℕ) (n : Option Relation) → length next ≡ i → AreNextOf rows next es
+  pub next_more : (rows next : List (Option Relation)) (es : Entries) (i : ℕ) (n : Option Relation) → length next ≡ i → AreNextOf rows next es
       → IsSoAt i (IsNextOf all (get_or rows i None) n) es → AreNextOf rows (next ++ n ∷ []) es
-  one-more rows [] [] i n l are h = absurd h
-  one-more [] [] (e ∷ es) zero n l are h = (h, tt)
-  one-more (o ∷ rows) [] (e ∷ es) zero n l are h = (h, tt)
-  one-more rows [] (e ∷ es) (suc i) n l are h = absurd (omega (arith, l))
-  one-more rows (m ∷ next) [] i n l are h = absurd h
-  one-more rows (m ∷ next) (e ∷ es) zero n l are h = absurd (omega (arith, l))
-  one-more [] (m ∷ next) (e ∷ es) (suc i) n l are h = (are.0, one-more [] next es i n (omega (arith, l)) are.1 h)
-  one-more (o ∷ rows) (m ∷ next) (e ∷ es) (suc i) n l are h = (are.0, one-more rows next es i n (omega (arith, l)) are.1 h)
-
-  pub next_more : (rows next more : List (Option Relation)) (es : Entries) (i : ℕ) (n : Option Relation) → more ≡ next ++ n ∷ [] → length next ≡ i → AreNextOf rows next es
-      → IsSoAt i (IsNextOf all (get_or rows i None) n) es → AreNextOf rows more es × (length more ≡ i + 1)
-  next_more rows next more es i n e l are h = (
-    subst (λ (z : List (Option Relation)). AreNextOf rows z es) (sym e) (one-more rows next es i n l are h),
-    ap length e ∙ (one-longer next n ∙ ap (λ (k : ℕ). k + 1) l),
-  )
+  next_more rows [] [] i n l are h = absurd h
+  next_more [] [] (e ∷ es) zero n l are h = (h, tt)
+  next_more (o ∷ rows) [] (e ∷ es) zero n l are h = (h, tt)
+  next_more rows [] (e ∷ es) (suc i) n l are h = absurd (omega (arith, l))
+  next_more rows (m ∷ next) [] i n l are h = absurd h
+  next_more rows (m ∷ next) (e ∷ es) zero n l are h = absurd (omega (arith, l))
+  next_more [] (m ∷ next) (e ∷ es) (suc i) n l are h = (are.0, next_more [] next es i n (omega (arith, l)) are.1 h)
+  next_more (o ∷ rows) (m ∷ next) (e ∷ es) (suc i) n l are h = (are.0, next_more rows next es i n (omega (arith, l)) are.1 h)
 
   no_places : (next : List (Option Relation)) → renewed next [] ≡ []
   no_places [] = refl
@@ -73,6 +62,10 @@ module _ (all : Entries) where
   next_places rows (n ∷ next) [] are = absurd are
   next_places [] (n ∷ next) (e ∷ es) are = (are.0.place, next_places [] next es are.1)
   next_places (o ∷ rows) (n ∷ next) (e ∷ es) are = (are.0.place, next_places rows next es are.1)
+
+pub one_longer : (next : List (Option Relation)) (n : Option Relation) → length (next ++ n ∷ []) ≡ length next + 1
+one_longer [] n = refl
+one_longer (m ∷ next) n = let h = one_longer next n in omega (arith, h)
 
 -- ---- one entry
 

@@ -10,6 +10,7 @@ use Rattle.meaning_core.specs.WellMade.{IsWellMade}
 use Rattle.tree_typing.specs.Trees.{tree_typed, test_typed}
 use Rattle.declaration_typing.specs.Drops.{dropped}
 use Rattle.declaration_typing.specs.Histories.{history_declared}
+use Rattle.declaration_typing.specs.KeptViews.{kept_declared}
 use Rattle.declaration_typing.specs.Logs.{log_declared}
 use Rattle.declaration_typing.specs.Ordinals.{ordinal_declared}
 use Rattle.declaration_typing.specs.Relvars.{relvar_declared}
@@ -17,8 +18,8 @@ use Rattle.declaration_typing.specs.Rules.{rule_declared, rule_dropped}
 use Rattle.declaration_typing.specs.Views.{view_declared}
 use Rattle.item_typing.specs.Items.{assignment_typed}
 use Rattle.type_check.specs.declared.checked.Checked.{Checked}
-use Rattle.type_check.specs.Checks.{Plain, declare_ordinal, declare_base, declare_view, declare_history, declare_log, remove, declare_rule, remove_rule, assign, print, ask, read_checked, giving, checked_var, checked, Checks, IsTypedPlain}
-use Rattle.type_check.proofs.DeclarationLemmas.{ordinal-made, relvar-made, view-made, history-made, log-made, drop-made, rule-made, rule-gone}
+use Rattle.type_check.specs.Checks.{Plain, declare_ordinal, declare_base, declare_view, declare_kept, declare_history, declare_log, remove, declare_rule, remove_rule, assign, print, ask, read_checked, giving, checked_var, checked, Checks, IsTypedPlain}
+use Rattle.type_check.proofs.DeclarationLemmas.{ordinal-made, relvar-made, view-made, kept-made, history-made, log-made, drop-made, rule-made, rule-gone}
 use Rattle.type_check.proofs.ItemTypedLemmas.{assignment-sound}
 use Rattle.type_check.proofs.TreeLemmas.{tree-sound, test-sound}
 
@@ -34,7 +35,7 @@ module _ (state : State) (made : IsWellMade state) where
   var-typed w (syntax.BaseRelvar at heading constraints) =
       given declare_base (IsTypedPlain state) (relvar_declared state w heading constraints) (relvar-made state made w heading constraints)
   var-typed w (syntax.View at rel) = given declare_view (IsTypedPlain state) (view_declared state w rel) (view-made state made w rel)
-  var-typed w (syntax.Kept at kept) = tt
+  var-typed w (syntax.Kept at kept) = given (λ v. declare_kept v.0 v.1) (IsTypedPlain state) (kept_declared state w kept) (kept-made state made w kept)
 
   pub checked-typed : (s : StatementP) → IfOk (checked state s) (IsTypedPlain state)
   checked-typed syntax.Nothing = tt

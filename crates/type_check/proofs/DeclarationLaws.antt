@@ -1,11 +1,11 @@
 -- The same of declarations and removals.
-use Rattle.std.proofs.Common.{◌≡◌, ℕ, ◌-◌, List, [], ◌∷◌, ◌++◌, Bool, ◌||◌, not, nat_le, nat_lt, length, is_some, Option, Some, None, Ok, slice_get, if◌then◌else◌}
+use Rattle.std.proofs.Common.{ℕ, ◌-◌, List, [], ◌∷◌, ◌++◌, ◌||◌, not, nat_le, nat_lt, length, is_some, Option, Some, None, Ok}
 use Rattle.std.specs.Str.{bytes_eq}
 use Rattle.point_core.specs.declared.fault.Place.{Place}
-use Rattle.point_core.specs.declared.fault.Code.TheVariants.{E06, E10, E11, E12, E15, E17, E19, E20, E21, E22}
+use Rattle.point_core.specs.declared.fault.Code.TheVariants.{E10, E11, E12, E15, E17, E19, E21, E22}
 use Rattle.utd_syntax.specs.Plain as syntax
-use Rattle.utd_syntax.specs.Plain.{Word, PointP, HeadingP, NamesP, NameListP, SomeNamesP, RelP, KeyP, ForeignP, UsedConstraintP, ConstraintP, TestP}
-use Rattle.utd_ranges.specs.Ranges.{Each, NameIn, SomeNamesIn, HeadingIn, RelIn, ForeignIn, UsedConstraintIn, ConstraintIn, TestIn, has_no_value}
+use Rattle.utd_syntax.specs.Plain.{Word, PointP, HeadingP, NamesP, NameListP, SomeNamesP, RelP, KeyP, ForeignP, UsedConstraintP, ConstraintP, KeptP, TestP}
+use Rattle.utd_ranges.specs.Ranges.{Each, NameIn, SomeNamesIn, HeadingIn, RelIn, ForeignIn, UsedConstraintIn, ConstraintIn, KeptIn, TestIn, has_no_value}
 use Rattle.value_core.specs.declared.constraint.Constraint.{Constraint}
 use Rattle.value_core.specs.declared.list.OrdinalNames.{OrdinalNames}
 use Rattle.value_core.specs.Attributes.{among}
@@ -20,8 +20,9 @@ use Rattle.meaning_core.specs.Declarations.{group}
 use Rattle.scalar_typing.specs.Names.{point_type}
 use Rattle.relation_typing.specs.Attributes.{name_typed, new_name as new_attribute}
 use Rattle.relation_typing.specs.Headings.{heading_typed}
-use Rattle.node_typing.specs.Positions.{check, position_typed}
+use Rattle.node_typing.specs.Positions.{position_typed}
 use Rattle.node_typing.specs.Lists.{named_in, kind_named, list_checked, words_of}
+use Rattle.tree_typing.specs.Kept.{kept_rel}
 use Rattle.tree_typing.specs.Trees.{tree_typed, test_typed_in}
 use Rattle.declaration_typing.specs.Names.{is_rule, is_taken, new_name, room_for}
 use Rattle.declaration_typing.specs.Ordinals.{with_value, values_typed, few_values, ordinal_declared}
@@ -29,6 +30,7 @@ use Rattle.declaration_typing.specs.Constraints.{names_typed, key_words, base_he
 use Rattle.declaration_typing.specs.Relvars.{relvar_declared}
 use Rattle.declaration_typing.specs.Nodes.{nodes_of, test_nodes}
 use Rattle.declaration_typing.specs.Views.{room_for_view, view_declared}
+use Rattle.declaration_typing.specs.KeptViews.{base_named, both_named, bases_named, kept_declared}
 use Rattle.declaration_typing.specs.Histories.{relvars_named, brace_of, key_names, facts_typed, attributes_named, room_for_three, history_declared}
 use Rattle.declaration_typing.specs.Logs.{room_for_log, log_declared}
 use Rattle.declaration_typing.specs.Drops.{is_of_history, is_used, dropped}
@@ -160,6 +162,35 @@ view-fine s w rel h g =
     then-fine (new_name s w) _ (free-name-fine s w h) (λ name.
     then-fine (tree_typed s rel) _ (tree-fine s rel g) (λ t.
     then-fine (room_for_view s w.place t) _ (room-for-view-fine s w.place t) (λ room. tt)))
+
+-- ---- stored views
+
+base-named-fine : (s : State) (w : Word) → NameIn has_no_value w → IsNotE06 (base_named s w)
+base-named-fine s w h = then-fine (name_typed w) _ (name-fine w h) (λ name. base-heading-fine w.place (relvar_named s.relvars name))
+
+both-named-fine : (s : State) (l r : Word) → NameIn has_no_value l → NameIn has_no_value r → IsNotE06 (both_named s l r)
+both-named-fine s l r h g = then-fine (base_named s l) _ (base-named-fine s l h) (λ left. base-named-fine s r g)
+
+bases-named-fine : (s : State) (kept : KeptP) → KeptIn has_no_value kept → IsNotE06 (bases_named s kept)
+bases-named-fine s (syntax.KeptInfix place list l at word r) h = both-named-fine s l r h.1 h.2
+bases-named-fine s (syntax.KeptNotMatching place list l at r) h = both-named-fine s l r h.1 h.2
+bases-named-fine s (syntax.KeptProject place list w p) h = base-named-fine s w h.1
+bases-named-fine s (syntax.KeptPack place w list) h = base-named-fine s w h.0
+
+-- the expression has the names of the stored view
+names-in : (kept : KeptP) → KeptIn has_no_value kept → RelIn has_no_value (kept_rel kept)
+names-in (syntax.KeptInfix place list l at word r) h = (h.0, (h.1, h.2))
+names-in (syntax.KeptNotMatching place list l at r) h = (h.0, (h.1, h.2))
+names-in (syntax.KeptProject place list w p) h = (h.0, (h.1, h.2))
+names-in (syntax.KeptPack place w list) h = h
+
+pub kept-fine : (s : State) (w : Word) (kept : KeptP) → NameIn has_no_value w → KeptIn has_no_value kept → IsNotE06 (kept_declared s w kept)
+unfolding kept_declared
+kept-fine s w kept h g =
+    then-fine (new_name s w) _ (free-name-fine s w h) (λ name.
+    then-fine (bases_named s kept) _ (bases-named-fine s kept g) (λ bases.
+    then-fine (tree_typed s (kept_rel kept)) _ (tree-fine s (kept_rel kept) (names-in kept g)) (λ t.
+    then-fine (room_for_view s w.place t) _ (room-for-view-fine s w.place t) (λ room. tt))))
 
 -- ---- histories
 

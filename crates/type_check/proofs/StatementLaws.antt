@@ -1,6 +1,5 @@
 -- The same of statements, and of the statement that is written as tokens which the grammar accepts.
 use Rattle.std.proofs.Common.{◌≡◌, List, []}
-use Rattle.point_core.specs.declared.fault.Code.TheVariants.{E01, E06}
 use Rattle.point_core.specs.Faults.{OrFault}
 use Rattle.utd_syntax.specs.Pieces.{Piece}
 use Rattle.utd_syntax.specs.Plain as syntax
@@ -17,6 +16,7 @@ use Rattle.declaration_typing.specs.Relvars.{relvar_declared}
 use Rattle.declaration_typing.specs.Rules.{rule_declared, rule_dropped}
 use Rattle.declaration_typing.specs.Views.{view_declared}
 use Rattle.declaration_typing.specs.Histories.{history_declared}
+use Rattle.declaration_typing.specs.KeptViews.{kept_declared}
 use Rattle.declaration_typing.specs.Logs.{log_declared}
 use Rattle.declaration_typing.specs.Drops.{dropped}
 use Rattle.item_typing.specs.Items.{assignment_typed}
@@ -24,19 +24,16 @@ use Rattle.type_check.specs.Checks.{Plain, giving, checked_var, checked}
 use Rattle.type_check.specs.Refusals.{IsNotE06}
 use Rattle.type_check.proofs.Refused.{then-fine}
 use Rattle.type_check.proofs.TreeLaws.{tree-fine, test-fine}
-use Rattle.type_check.proofs.DeclarationLaws.{ordinal-fine, base-relvar-fine, view-fine, history-fine, log-fine, dropped-fine, rule-fine, rule-dropped-fine}
+use Rattle.type_check.proofs.DeclarationLaws.{ordinal-fine, base-relvar-fine, view-fine, kept-fine, history-fine, log-fine, dropped-fine, rule-fine, rule-dropped-fine}
 use Rattle.type_check.proofs.ItemLaws.{assignment-fine}
 
 giving-fine : {A : Type 0} (f : A → Plain) (typed : OrFault A) → IsNotE06 typed → IsNotE06 (giving f typed)
 giving-fine f typed h = then-fine typed _ h (λ x. tt)
 
-other-code : E01 ≡ E06 → ⊥
-other-code e = cc
-
 var-fine : (state : State) (w : Word) (form : VarFormP) → NameIn has_no_value w → VarFormIn has_no_value form → IsNotE06 (checked_var state w form)
 var-fine state w (syntax.BaseRelvar at heading constraints) h g = giving-fine _ (relvar_declared state w heading constraints) (base-relvar-fine state w heading constraints h g.0 g.1)
 var-fine state w (syntax.View at rel) h g = giving-fine _ (view_declared state w rel) (view-fine state w rel h g)
-var-fine state w (syntax.Kept at kept) h g = other-code
+var-fine state w (syntax.Kept at kept) h g = giving-fine _ (kept_declared state w kept) (kept-fine state w kept h g)
 
 -- the typing of a statement whose names and literals each stand for a name or a value
 pub statement-fine : (state : State) (s : StatementP) → HasValues s → IsNotE06 (checked state s)

@@ -4,8 +4,7 @@
 --     IsTypedPlain      what is given can be performed
 use Rattle.std.specs.Prelude.{◌≡◌, List, map, Result, Ok, Err}
 use Rattle.std.specs.List.{All}
-use Rattle.point_core.specs.declared.fault.Code.TheVariants.{E01}
-use Rattle.point_core.specs.Faults.{OrFault, fault}
+use Rattle.point_core.specs.Faults.{OrFault}
 use Rattle.utd_syntax.specs.Plain as syntax
 use Rattle.utd_syntax.specs.Plain.{Word, VarFormP, StatementP}
 use Rattle.value_core.specs.declared.refuse.Refuse.{Refuse}
@@ -15,15 +14,16 @@ use Rattle.scalar_typing.specs.Typings.{◌>>=◌}
 use Rattle.tree_core.specs.declared.declaration.HistoryData.{HistoryData}
 use Rattle.tree_core.specs.declared.declaration.LogData.{LogData}
 use Rattle.tree_core.specs.Items.{PlainItem, read_item}
-use Rattle.tree_core.specs.Relvars.{State}
+use Rattle.tree_core.specs.Relvars.{State, stored, view}
 use Rattle.tree_core.specs.Trees.{Tree, Test, read_tree, read_test}
-use Rattle.meaning_core.specs.Declarations.{PlainDeclaration, read_declaration, with_declaration, without_group, with_rule, without_rule}
+use Rattle.meaning_core.specs.Declarations.{PlainDeclaration, read_declaration, with_declaration, with_relvar, without_group, with_rule, without_rule}
 use Rattle.meaning_core.specs.Updates.{IsTypedItem, IsTypedLog}
-use Rattle.meaning_core.specs.WellMade.{IsWellMade, IsTypedFor, IsTypedTestFor}
+use Rattle.meaning_core.specs.WellMade.{IsOfKind, IsWellMade, IsTypedFor, IsTypedTestFor}
 use Rattle.since_during.specs.Histories.{IsTypedHistory}
 use Rattle.tree_typing.specs.Trees.{tree_typed, test_typed}
 use Rattle.declaration_typing.specs.Drops.{dropped}
 use Rattle.declaration_typing.specs.Histories.{history_declared}
+use Rattle.declaration_typing.specs.KeptViews.{kept_declared}
 use Rattle.declaration_typing.specs.Logs.{log_declared}
 use Rattle.declaration_typing.specs.Ordinals.{ordinal_declared}
 use Rattle.declaration_typing.specs.Relvars.{relvar_declared}
@@ -33,13 +33,14 @@ use Rattle.item_typing.specs.Items.{assignment_typed}
 use Rattle.type_check.specs.declared.checked.Checked.{Checked}
 use Rattle.type_check.specs.declared.checked.Checked.TheVariants as variants
 
--- nothing; an ordinal type, a base relvar, a view, a history or a log that is declared; a relvar, view or log that goes; a database constraint
--- that is declared, or goes; items of an assignment; a relation to be printed; a test whose truth is asked for
+-- nothing; an ordinal type, a base relvar, a view, a stored view, a history or a log that is declared; a relvar, view or log that goes;
+-- a database constraint that is declared, or goes; items of an assignment; a relation to be printed; a test whose truth is asked for
 pub data Plain : Type 0 where
   nothing : Plain
   declare_ordinal : PlainDeclaration → Plain
   declare_base : PlainDeclaration → Plain
   declare_view : PlainDeclaration → Plain
+  declare_kept : Name → Tree → Plain
   declare_history : HistoryData → Plain
   declare_log : LogData → Plain
   remove : Name → Plain
@@ -54,6 +55,7 @@ read_checked variants.Nothing = nothing
 read_checked (variants.Ordinal d) = declare_ordinal (read_declaration d)
 read_checked (variants.Base d) = declare_base (read_declaration d)
 read_checked (variants.View d) = declare_view (read_declaration d)
+read_checked (variants.Kept name t) = declare_kept name (read_tree t)
 read_checked (variants.History h) = declare_history h
 read_checked (variants.Log d) = declare_log d
 read_checked (variants.Remove name) = remove name
@@ -71,11 +73,10 @@ giving f typed = do
   x ← typed
   Ok (f x)
 
--- a kept view is read but cannot be performed: it is refused at KEPT
 abbrev pub checked_var : State → Word → VarFormP → OrFault Plain
 checked_var state w (syntax.BaseRelvar at heading constraints) = giving declare_base (relvar_declared state w heading constraints)
 checked_var state w (syntax.View at rel) = giving declare_view (view_declared state w rel)
-checked_var state w (syntax.Kept at kept) = Err (fault at E01)
+checked_var state w (syntax.Kept at kept) = giving (λ v. declare_kept v.0 v.1) (kept_declared state w kept)
 
 abbrev pub checked : State → StatementP → OrFault Plain
 checked state syntax.Nothing = Ok nothing
@@ -100,12 +101,15 @@ Checks (Err (refuses.Broken code relvar number)) meant = ⊥
 
 -- ---- what is given can be performed
 
--- what is given is typed for the state, and what it makes of the state is well made; so is what a typed history or log makes of it
+-- what is given is typed for the state, and what it makes of the state is well made; so is what a typed history or log makes of it;
+-- the expression of a stored view has the form of one, over base relvars
 abbrev pub IsTypedPlain : State → Plain → Type 0
 IsTypedPlain state nothing = Unit {0}
 IsTypedPlain state (declare_ordinal d) = IsWellMade (with_declaration state d)
 IsTypedPlain state (declare_base d) = IsWellMade (with_declaration state d)
 IsTypedPlain state (declare_view d) = IsWellMade (with_declaration state d)
+IsTypedPlain state (declare_kept name t) =
+    IsWellMade (with_relvar state name (view t stored)) × (IsTypedFor state t × IsOfKind state.relvars t stored)
 IsTypedPlain state (declare_history h) = IsTypedHistory state h
 IsTypedPlain state (declare_log d) = IsTypedLog state d
 IsTypedPlain state (remove name) = IsWellMade (without_group name state)

@@ -1,8 +1,5 @@
 // What type checking answers to a statement.
-ghost use Rattle.std.specs.Prelude.{◌≡◌, IfOk};
-ghost use Rattle.point_core.specs.declared.fault.Code.TheVariants.{E01};
-ghost use Rattle.point_core.specs.Faults.{fault};
-ghost use Rattle.value_core.specs.declared.refuse.Refuse.TheVariants as refuses;
+ghost use Rattle.std.specs.Prelude.{IfOk};
 ghost use Rattle.utd_syntax.specs.Read.{read_name, read_statement, read_var_form};
 ghost use Rattle.scalar_typing.specs.Names.{AreOrdinals};
 ghost use Rattle.tree_core.specs.Relvars.{read_relvars};
@@ -10,25 +7,25 @@ ghost use Rattle.meaning_core.specs.WellMade.{IsWellMade};
 ghost use Rattle.type_check.specs.Checks.{Checks, checked, checked_var, read_checked, IsTypedPlain};
 
 use declaration_typing::{
-    type_drop, type_history, type_log, type_ordinal, type_relvar, type_rule, type_rule_drop,
-    type_view,
+    type_drop, type_history, type_kept, type_log, type_ordinal, type_relvar, type_rule,
+    type_rule_drop, type_view,
 };
 use item_typing::type_items;
-use point_core::{Code, Fault, Place};
 use std::alloc::Global;
 use tree_core::{Declaration, HistoryData, Items, LogData, RelTest, RelTree, Relvars};
 use tree_typing::{type_test, type_tree};
 use utd_syntax::{Statement, VarForm, Word};
 use value_core::{Name, Refuse};
 
-/// What a statement does: nothing, declare an ordinal type, a base relvar, a view, a history or a log, remove a relvar, view or log,
-/// declare or remove a database constraint, assign, print a relation, or tell whether a test holds.
+/// What a statement does: nothing, declare an ordinal type, a base relvar, a view, a stored view, a history or a log, remove a relvar, view
+/// or log, declare or remove a database constraint, assign, print a relation, or tell whether a test holds.
 #[derive(Drop)]
 pub enum Checked {
     Nothing,
     Ordinal(Declaration),
     Base(Declaration),
     View(Declaration),
+    Kept(Name, RelTree),
     History(HistoryData),
     Log(LogData),
     Remove(Name),
@@ -39,17 +36,7 @@ pub enum Checked {
     Ask(RelTest),
 }
 
-// The refusal of what the grammar reads and nothing performs: as if it could not stand at this token.
-fn unbuilt(place: Place) -> Refuse
-    ensures { result ≡ refuses.At (fault place E01) }
-{
-    Refuse::At(Fault {
-        place,
-        code: Code::E01,
-    })
-}
-
-/// The base relvar or view that VAR declares.
+/// The base relvar, view or stored view that VAR declares.
 fn type_var(
     alloc: Global,
     word: &Word,
@@ -68,7 +55,10 @@ fn type_var(
             let declaration = type_view(alloc, word, rel, relvars)?;
             Ok(Checked::View(declaration))
         }
-        VarForm::Kept(place, _) => Err(unbuilt(*place)),
+        VarForm::Kept(_, kept) => {
+            let (name, tree) = type_kept(alloc, word, kept, relvars)?;
+            Ok(Checked::Kept(name, tree))
+        }
     }
 }
 

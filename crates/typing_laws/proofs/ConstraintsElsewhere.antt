@@ -1,6 +1,7 @@
 -- The constraints of a base relvar at other places, and in a state where the relvars that they name are alike.
 --     constraints-elsewhere      they are typed the same
 --     few-constraints-elsewhere      and few enough
+--     base-elsewhere      the heading of one that is named
 use Rattle.std.proofs.Common.{◌≡◌, ℕ, Bool, true, false, not, List, [], ◌∷◌, ◌++◌, map, Option, Some, None, Ok, if◌then◌else◌, refl, sym, ap, ◌∙◌}
 use Rattle.std.specs.Prelude.{◌&&◌, ◌||◌, slice_get, option_map}
 use Rattle.std.specs.List.{list_any}
@@ -88,7 +89,7 @@ module _ (f : Place → Place) (heading : Heading) where
 
 -- ---- referenced relvars
 
-base-elsewhere : (at to : Place) (o p : Option PlainRelvar) (g : Heading) → LikeIf o p → base_heading at o ≡ Ok g → base_heading to p ≡ Ok g
+pub base-elsewhere : (at to : Place) (o p : Option PlainRelvar) (g : Heading) → LikeIf o p → base_heading at o ≡ Ok g → base_heading to p ≡ Ok g
 base-elsewhere at to None p g like h = absurd cc
 base-elsewhere at to (Some (base v c)) None g like h = absurd like
 base-elsewhere at to (Some (base v c)) (Some (base u d)) g like h =

@@ -8,6 +8,7 @@ mod SweepsElsewhere
 mod NodesElsewhere
 mod UsingsElsewhere
 pub mod TreesElsewhere
+mod KeptElsewhere
 pub mod SaysElsewhere
 pub mod SaysMore
 pub mod SaidLaws

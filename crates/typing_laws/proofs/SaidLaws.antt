@@ -1,20 +1,20 @@
 -- What is said, moved, and what it adds to a state.
 --     said-moved-names, said-moved-any      its names, and what it names
 --     said-moved-entries, said-moved-ordinals, said-moved-rules      what it adds, moved
---     with-ordinal, with-base, with-view, with-history, with-said-rule      what the machine makes of a state is `with_said`
-use Rattle.std.proofs.Common.{◌≡◌, Bool, List, [], ◌∷◌, ◌++◌, map, Some, None, refl, sym, ap, ◌∙◌, append_assoc}
+--     with-ordinal, with-base, with-view, with-stored, with-history, with-said-rule      what the machine makes of a state is `with_said`
+use Rattle.std.proofs.Common.{◌≡◌, Bool, List, [], ◌∷◌, ◌++◌, map, refl, sym, ap, ◌∙◌, append_assoc}
 use Rattle.std.proofs.lemmas.List.{append-nil}
 use Rattle.point_core.specs.declared.fault.Place.{Place}
 use Rattle.value_core.specs.declared.constraint.Constraint.{Constraint}
 use Rattle.value_core.specs.Values.{Name, Heading}
 use Rattle.tree_core.specs.declared.declaration.HistoryData.{HistoryData}
-use Rattle.tree_core.specs.Relvars.{State, derived, of_history, PlainRelvar, base, view, Entries}
+use Rattle.tree_core.specs.Relvars.{State, derived, stored, of_history, PlainRelvar, base, view, Entries}
 use Rattle.tree_core.specs.Trees.{Tree, Test}
-use Rattle.meaning_core.specs.Declarations.{ordinal_type, base_relvar, view_relvar, with_declaration, with_rule}
+use Rattle.meaning_core.specs.Declarations.{ordinal_type, base_relvar, view_relvar, with_declaration, with_relvar, with_rule}
 use Rattle.meaning_laws.specs.Moved.{moved_entry, moved_rule}
 use Rattle.meaning_laws.proofs.SameMoved.{names-moved, test-names-moved}
 use Rattle.since_during.specs.Histories.{since_heading, during_heading, since_constraints, during_constraints, view_of, declared_history, declared_in}
-use Rattle.typing_laws.specs.Saying.{Said, said_ordinal, said_base, said_view, said_history, said_rule, names_said, moved_said, said_names_any, entries_said, ordinals_said, rules_said, with_said}
+use Rattle.typing_laws.specs.Saying.{Said, said_ordinal, said_base, said_view, said_stored, said_history, said_rule, names_said, moved_said, said_names_any, entries_said, ordinals_said, rules_said, with_said}
 
 -- ---- moved
 
@@ -23,6 +23,7 @@ module _ (f : Place → Place) where
   said-moved-names (said_ordinal name names) = refl
   said-moved-names (said_base name heading typed) = refl
   said-moved-names (said_view name t) = refl
+  said-moved-names (said_stored name t) = refl
   said-moved-names (said_history made) = refl
   said-moved-names (said_rule name t) = refl
 
@@ -30,6 +31,7 @@ module _ (f : Place → Place) where
   said-moved-any some (said_ordinal name names) = refl
   said-moved-any some (said_base name heading typed) = refl
   said-moved-any some (said_view name t) = names-moved f some t
+  said-moved-any some (said_stored name t) = names-moved f some t
   said-moved-any some (said_history made) = refl
   said-moved-any some (said_rule name t) = test-names-moved f some t
 
@@ -37,6 +39,7 @@ module _ (f : Place → Place) where
   said-moved-entries (said_ordinal name names) = refl
   said-moved-entries (said_base name heading typed) = refl
   said-moved-entries (said_view name t) = refl
+  said-moved-entries (said_stored name t) = refl
   said-moved-entries (said_history made) = refl
   said-moved-entries (said_rule name t) = refl
 
@@ -44,6 +47,7 @@ module _ (f : Place → Place) where
   said-moved-ordinals (said_ordinal name names) = refl
   said-moved-ordinals (said_base name heading typed) = refl
   said-moved-ordinals (said_view name t) = refl
+  said-moved-ordinals (said_stored name t) = refl
   said-moved-ordinals (said_history made) = refl
   said-moved-ordinals (said_rule name t) = refl
 
@@ -51,6 +55,7 @@ module _ (f : Place → Place) where
   said-moved-rules (said_ordinal name names) = refl
   said-moved-rules (said_base name heading typed) = refl
   said-moved-rules (said_view name t) = refl
+  said-moved-rules (said_stored name t) = refl
   said-moved-rules (said_history made) = refl
   said-moved-rules (said_rule name t) = refl
 
@@ -74,6 +79,9 @@ module _ (s : State) where
 
   pub with-view : (name : Name) (t : Tree) → with_declaration s (view_relvar name t derived) ≡ with_said s (said_view name t)
   with-view name t = λ i. record { ordinals = no-ordinals i; relvars = s.relvars ++ entries_said (said_view name t); rules = no-rules i; accepted = s.accepted }
+
+  pub with-stored : (name : Name) (t : Tree) → with_relvar s name (view t stored) ≡ with_said s (said_stored name t)
+  with-stored name t = λ i. record { ordinals = no-ordinals i; relvars = s.relvars ++ entries_said (said_stored name t); rules = no-rules i; accepted = s.accepted }
 
   pub with-said-rule : (name : Name) (t : Test) → with_rule name t s ≡ with_said s (said_rule name t)
   with-said-rule name t = λ i. record { ordinals = no-ordinals i; relvars = no-relvars i; rules = s.rules ++ (name, t) ∷ []; accepted = s.accepted }

@@ -1,7 +1,7 @@
 -- The names that are taken where one declaration more stands, and what is said by what it adds to a state.
 --     taken-with      a name is taken there if it was, or the declaration has it
 --     said-unused      what adds nothing that names one of some names none of them
-use Rattle.std.proofs.Common.{◌≡◌, Bool, true, false, List, [], ◌∷◌, ◌++◌, Option, Some, None, refl, ap, ◌∙◌}
+use Rattle.std.proofs.Common.{◌≡◌, Bool, true, false, List, [], ◌∷◌, ◌++◌, Option, Some, refl, ap, ◌∙◌}
 use Rattle.std.specs.Prelude.{◌&&◌, ◌||◌, not, is_some, if◌then◌else◌}
 use Rattle.std.specs.List.{list_any}
 use Rattle.std.specs.Str.{bytes_eq}
@@ -12,12 +12,12 @@ use Rattle.value_core.specs.declared.constraint.Constraint.{Constraint}
 use Rattle.value_core.specs.declared.constraint.Constraint.TheVariants.{Key, Packed, WhenUnpacked, UKey, Foreign, History}
 use Rattle.value_core.specs.declared.list.OrdinalNames.{OrdinalNames}
 use Rattle.value_core.specs.Values.{Name}
-use Rattle.tree_core.specs.Relvars.{State, derived, of_history, PlainRelvar, base, view, Entries, Rules, relvar_named}
+use Rattle.tree_core.specs.Relvars.{State, derived, stored, of_history, PlainRelvar, base, view, Entries, Rules, relvar_named}
 use Rattle.tree_core.specs.Trees.{Test}
 use Rattle.tree_core.specs.Uses.{is_one_of, test_names_any, references_any, relvar_names_any}
 use Rattle.since_during.specs.Histories.{since_heading, during_heading, since_constraints, during_constraints, view_of}
 use Rattle.declaration_typing.specs.Names.{is_taken}
-use Rattle.typing_laws.specs.Saying.{Said, said_ordinal, said_base, said_view, said_history, said_rule, names_said, references_other, said_names_any, entries_said, ordinals_said, rules_said, with_said}
+use Rattle.typing_laws.specs.Saying.{Said, said_ordinal, said_base, said_view, said_stored, said_history, said_rule, names_said, references_other, said_names_any, entries_said, ordinals_said, rules_said, with_said}
 
 -- ---- names that are taken
 
@@ -71,6 +71,7 @@ own-names : (d : Said) (name : Name) → (has_type (ordinals_said d) name || is_
 own-names (said_ordinal own names) name = two-nothing (bytes_eq name own || false)
 own-names (said_base own heading typed) name = or-nothing (is_some (relvar_named (entries_said (said_base own heading typed)) name)) ∙ entry-has own name _ []
 own-names (said_view own t) name = or-nothing (is_some (relvar_named (entries_said (said_view own t)) name)) ∙ entry-has own name _ []
+own-names (said_stored own t) name = or-nothing (is_some (relvar_named (entries_said (said_stored own t)) name)) ∙ entry-has own name _ []
 own-names (said_history made) name =
     or-nothing (is_some (relvar_named (entries_said (said_history made)) name))
     ∙ three-have made.since made.during made.view name (base (record { heading = since_heading made; rows = [] }) (since_constraints made))
@@ -112,5 +113,6 @@ module _ (some : Name → Bool) where
   said-unused (said_ordinal own names) entries rules = refl
   said-unused (said_base own heading typed) entries rules = all-unused own typed (or_parts (list_any (references_any some) typed) false entries).0
   said-unused (said_view own t) entries rules = (or_parts (relvar_names_any some (view t derived)) false entries).0
+  said-unused (said_stored own t) entries rules = (or_parts (relvar_names_any some (view t stored)) false entries).0
   said-unused (said_history made) entries rules = refl
   said-unused (said_rule own t) entries rules = (or_parts (test_names_any some t) false rules).0

@@ -2,7 +2,7 @@
 --     checked-says      what is checked says something, whose names are free and for which there is room
 --     says-checked      and what so says something is checked
 use Rattle.std.proofs.Common.{◌≡◌, false, List, [], ◌∷◌, length, Ok, refl, sym, ap, ◌∙◌, subst}
-use Rattle.std.specs.Prelude.{◌<◌, ◌≤◌, ◌-◌, not, ◌||◌, nat_le, nat_lt, None}
+use Rattle.std.specs.Prelude.{◌<◌, ◌≤◌, ◌-◌, not, ◌||◌, nat_le, nat_lt}
 use Rattle.std.specs.List.{IsDistinct}
 use Rattle.std.specs.Str.{bytes_eq}
 use Rattle.std.proofs.lemmas.Bool.{or_parts, or_from, not-true, leb-true, ltb-true, lt-ltb, le-leb}
@@ -12,7 +12,7 @@ use Rattle.point_core.specs.declared.fault.Code.TheVariants.{E11, E22}
 use Rattle.point_core.specs.declared.fault.Place.{Place}
 use Rattle.point_core.specs.Faults.{OrFault}
 use Rattle.utd_syntax.specs.Plain as syntax
-use Rattle.utd_syntax.specs.Plain.{Word, PointP, SomeNamesP, HeadingP, KeyP, ConstraintP, RelP, TestP, VarFormP, StatementP}
+use Rattle.utd_syntax.specs.Plain.{Word, PointP, SomeNamesP, HeadingP, KeyP, ConstraintP, RelP, KeptP, TestP, VarFormP, StatementP}
 use Rattle.value_core.specs.Limits.{most_ordinal_types, most_relvars, most_nodes, most_rules}
 use Rattle.value_core.specs.Values.{Name, Heading}
 use Rattle.scalar_typing.specs.Names.{point_type}
@@ -23,18 +23,20 @@ use Rattle.tree_core.specs.Relvars.{State, derived}
 use Rattle.tree_core.specs.Trees.{Tree, Test}
 use Rattle.meaning_core.specs.Declarations.{ordinal_type, base_relvar, view_relvar}
 use Rattle.node_typing.specs.Positions.{check}
+use Rattle.tree_typing.specs.Kept.{kept_rel}
 use Rattle.tree_typing.specs.Trees.{tree_typed, test_typed_in}
 use Rattle.declaration_typing.specs.Constraints.{constraints_typed, few_constraints}
 use Rattle.declaration_typing.specs.Histories.{relvars_named, facts_typed, attributes_named, room_for_three, history_declared}
+use Rattle.declaration_typing.specs.KeptViews.{bases_named, kept_declared}
 use Rattle.declaration_typing.specs.Names.{is_taken, new_name, room_for}
 use Rattle.declaration_typing.specs.Nodes.{nodes_of, test_nodes}
 use Rattle.declaration_typing.specs.Ordinals.{few_values, ordinal_declared}
 use Rattle.declaration_typing.specs.Relvars.{relvar_declared}
 use Rattle.declaration_typing.specs.Rules.{rule_scope, room_for_rule, rule_declared}
 use Rattle.declaration_typing.specs.Views.{room_for_view, view_declared}
-use Rattle.type_check.specs.Checks.{Plain, declare_ordinal, declare_base, declare_view, declare_history, declare_rule, giving, checked}
+use Rattle.type_check.specs.Checks.{Plain, declare_ordinal, declare_base, declare_view, declare_kept, declare_history, declare_rule, giving, checked}
 use Rattle.row_typing_laws.proofs.Parts.{parts-of, joined-of, check-holds, check-given}
-use Rattle.typing_laws.specs.Saying.{Said, said_ordinal, said_base, said_view, said_history, said_rule, Says, IsSaidHistory, IsDeclaration, names_said, plain_of, IsFree, HasRoom}
+use Rattle.typing_laws.specs.Saying.{Said, said_ordinal, said_base, said_view, said_stored, said_history, said_rule, Says, IsSaidHistory, IsSaidStored, IsDeclaration, names_said, plain_of, IsFree, HasRoom}
 use Rattle.typing_laws.proofs.SameGiven.{ok-same}
 
 -- what was given on the way
@@ -173,6 +175,27 @@ module _ (s : State) where
         given-by declare_view (view_declared s w rel) (view_relvar name.0 t.0 derived) p h (d.1 ∙ sym rooms.2),
       )
 
+  stored-says : (at : Place) (w : Word) (there : Place) (kept : KeptP) (p : Plain) → checked s (syntax.DeclareRelvar at w (syntax.Kept there kept)) ≡ Ok p
+      → IsSaid s (syntax.DeclareRelvar at w (syntax.Kept there kept)) p
+  unfolding kept_declared
+  stored-says at w there kept p h =
+      let d = parts-of (kept_declared s w kept) _ p h in
+      let name = parts-of (new_name s w) _ d.0 d.1 in
+      let bases = parts-of (bases_named s kept) _ d.0 name.2 in
+      let t = parts-of (tree_typed s (kept_rel kept)) _ d.0 bases.2 in
+      let rooms = parts-of (room_for_view s w.place t.0) _ d.0 t.2 in
+      let few = parts-of (check w.place E22 (nat_le (nodes_of s.relvars t.0) most_nodes)) _ rooms.0 rooms.1 in
+      let is = new-parts s w name.0 name.1 in (
+        said_stored name.0 t.0,
+        record { view = is.0; last = bases.0; bases = bases.1; tree = t.1 },
+        free-one s name.0 is.1,
+        (
+          ltb-true (length s.relvars) most_relvars (check-holds w.place E22 (nat_lt (length s.relvars) most_relvars) tt rooms.0 few.2),
+          leb-true (nodes_of s.relvars t.0) most_nodes (check-holds w.place E22 (nat_le (nodes_of s.relvars t.0) most_nodes) tt few.0 few.1),
+        ),
+        given-by (λ (v : Name × Tree). declare_kept v.0 v.1) (kept_declared s w kept) (name.0, t.0) p h (d.1 ∙ sym rooms.2),
+      )
+
   rule-says : (at : Place) (w : Word) (test : TestP) (p : Plain) → checked s (syntax.DeclareRule at w test) ≡ Ok p → IsSaid s (syntax.DeclareRule at w test) p
   unfolding rule_declared
   rule-says at w test p h =
@@ -226,7 +249,7 @@ module _ (s : State) where
   checked-says (syntax.DeclareOrdinal at w values) p h is = ordinal-says at w values p h
   checked-says (syntax.DeclareRelvar at w (syntax.BaseRelvar there g cs)) p h is = base-says at w there g cs p h
   checked-says (syntax.DeclareRelvar at w (syntax.View there rel)) p h is = view-says at w there rel p h
-  checked-says (syntax.DeclareRelvar at w (syntax.Kept there kept)) p h is = cc h
+  checked-says (syntax.DeclareRelvar at w (syntax.Kept there kept)) p h is = stored-says at w there kept p h
   checked-says (syntax.DeclareLog at log source attribute) p h is = absurd is
   checked-says (syntax.DeclareHistory at v g key b w d i t) p h is = history-says at v g key b w d i t p h
   checked-says (syntax.DeclareRule at w test) p h is = rule-says at w test p h
@@ -271,6 +294,17 @@ module _ (s : State) where
       (joined-of (check w.place E22 (nat_le (nodes_of s.relvars t) most_nodes)) _ tt tt
       (check-given w.place E22 (nat_le (nodes_of s.relvars t) most_nodes) tt (le-leb (nodes_of s.relvars t) most_nodes few)) (room-holds w.place room)) refl))
 
+  says-stored : (w : Word) (kept : KeptP) (name : Name) (t : Tree) → IsSaidStored s w kept name t → is_taken s name ≡ false → length s.relvars < most_relvars
+      → nodes_of s.relvars t ≤ most_nodes → kept_declared s w kept ≡ Ok (name, t)
+  unfolding kept_declared
+  says-stored w kept name t is free room few =
+      joined-of (new_name s w) _ name (name, t) (new-joined s w name is.view free)
+      (joined-of (bases_named s kept) _ is.last (name, t) is.bases
+      (joined-of (tree_typed s (kept_rel kept)) _ t (name, t) is.tree
+      (joined-of (room_for_view s w.place t) _ tt (name, t)
+      (joined-of (check w.place E22 (nat_le (nodes_of s.relvars t) most_nodes)) _ tt tt
+      (check-given w.place E22 (nat_le (nodes_of s.relvars t) most_nodes) tt (le-leb (nodes_of s.relvars t) most_nodes few)) (room-holds w.place room)) refl)))
+
   says-rule : (w : Word) (test : TestP) (name : Name) (t : Test) → name_typed w ≡ Ok name → test_typed_in (rule_scope s) test ≡ Ok t → is_taken s name ≡ false
       → test_nodes s.relvars t ≤ most_nodes → length s.rules < most_rules → rule_declared s w test ≡ Ok (name, t)
   unfolding rule_declared
@@ -304,6 +338,8 @@ module _ (s : State) where
       gives-by declare_base (relvar_declared s w g cs) (base_relvar name heading typed) (says-base w g cs name heading typed says.0 says.1 says.2 says.3 free.0.0 room)
   says-checked (syntax.DeclareRelvar at w (syntax.View there rel)) (said_view name t) says free room =
       gives-by declare_view (view_declared s w rel) (view_relvar name t derived) (says-view w rel name t says.0 says.1 free.0.0 room.0 room.1)
+  says-checked (syntax.DeclareRelvar at w (syntax.Kept there kept)) (said_stored name t) says free room =
+      gives-by (λ (v : Name × Tree). declare_kept v.0 v.1) (kept_declared s w kept) (name, t) (says-stored w kept name t says free.0.0 room.0 room.1)
   says-checked (syntax.DeclareHistory at v g key b p d i t) (said_history made) says free room =
       gives-by declare_history (history_declared s at v g key b p d i t) made (says-history at v g key b p d i t made says free room)
   says-checked (syntax.DeclareRule at w test) (said_rule name t) says free room =

@@ -6,24 +6,28 @@ use Rattle.std.proofs.Common.{◌≡◌, false, List, [], ◌++◌, Ok, refl, sy
 use Rattle.std.specs.Prelude.{Bool}
 use Rattle.point_core.specs.declared.fault.Place.{Place}
 use Rattle.utd_syntax.specs.Plain as syntax
-use Rattle.utd_syntax.specs.Plain.{Word, PointP, HeadingP, KeyP, StatementP}
+use Rattle.utd_syntax.specs.Plain.{Word, PointP, HeadingP, KeyP, KeptP, StatementP}
 use Rattle.value_core.specs.declared.list.OrdinalNames.{OrdinalNames}
 use Rattle.value_core.specs.Values.{Name, Heading}
 use Rattle.scalar_typing.specs.Names.{point_type}
 use Rattle.relation_typing.specs.Headings.{heading_typed}
 use Rattle.tree_core.specs.declared.declaration.HistoryData.{HistoryData}
 use Rattle.tree_core.specs.Relvars.{State}
+use Rattle.tree_core.specs.Trees.{Tree}
+use Rattle.tree_core.specs.Uses.{names_any}
 use Rattle.declaration_typing.specs.Histories.{facts_typed}
 use Rattle.declaration_typing.specs.Rules.{rule_scope}
-use Rattle.place_laws.specs.Moved.{moved_word, moved_point, moved_heading, moved_key, moved_statement}
+use Rattle.place_laws.specs.Moved.{moved_word, moved_point, moved_heading, moved_key, moved_kept, moved_statement}
 use Rattle.place_laws.proofs.SameTrees.{statement-same}
 use Rattle.meaning_laws.specs.Likeness.{Alike}
+use Rattle.meaning_laws.specs.Moved.{moved_tree}
 use Rattle.meaning_laws.proofs.SameMoved.{tree-same, test-same}
 use Rattle.row_typing_laws.proofs.ElsewhereHeadings.{heading-follows}
 use Rattle.row_typing_laws.proofs.ElsewhereNames.{point-follows, word-follows}
-use Rattle.typing_laws.specs.Saying.{Said, said_ordinal, said_base, said_view, said_history, said_rule, Says, IsSaidHistory, moved_history, moved_said, said_names_any}
+use Rattle.typing_laws.specs.Saying.{Said, said_ordinal, said_base, said_view, said_stored, said_history, said_rule, Says, IsSaidHistory, IsSaidStored, moved_history, moved_said, said_names_any}
 use Rattle.typing_laws.proofs.ConstraintsElsewhere.{constraints-elsewhere, few-constraints-elsewhere}
 use Rattle.typing_laws.proofs.DeclarationsElsewhere.{few-values-follows, ends-follow, facts-follow}
+use Rattle.typing_laws.proofs.KeptElsewhere.{bases-elsewhere, kept-elsewhere}
 use Rattle.typing_laws.proofs.LogsAlike.{SameLogs}
 use Rattle.typing_laws.proofs.TreesElsewhere.{tree-elsewhere, test-elsewhere}
 
@@ -48,12 +52,21 @@ module _ (some : Name → Bool) (f : Place → Place) (s r : State) (more : List
     place = ap f is.place;
   }
 
+  stored-there : (w : Word) (kept : KeptP) (name : Name) (t : Tree) → names_any some t ≡ false → IsSaidStored s w kept name t → IsSaidStored r (moved_word f w) (moved_kept f kept) name (moved_tree f t)
+  stored-there w kept name t none is = record {
+    view = word-follows f w name is.view;
+    last = is.last;
+    bases = bases-elsewhere f some s r alike kept t is.last none is.tree is.bases;
+    tree = kept-elsewhere f some s r alike more types kept t none is.tree;
+  }
+
   pub says-elsewhere : (tree : StatementP) (d : Said) → said_names_any some d ≡ false → Says s tree d → Says r (moved_statement f tree) (moved_said f d)
   says-elsewhere (syntax.DeclareOrdinal at w values) (said_ordinal name names) none says = (word-follows f w name says.0, few-values-follows f values names says.1)
   says-elsewhere (syntax.DeclareRelvar at w (syntax.BaseRelvar there h cs)) (said_base name heading typed) none says =
       (word-follows f w name says.0, heading-there h heading says.1, constraints-elsewhere f some s r alike name heading [] cs typed none says.2, few-constraints-elsewhere f cs says.3)
   says-elsewhere (syntax.DeclareRelvar at w (syntax.View there rel)) (said_view name t) none says =
       (word-follows f w name says.0, tree-elsewhere f some s r more alike types rel t none says.1)
+  says-elsewhere (syntax.DeclareRelvar at w (syntax.Kept there kept)) (said_stored name t) none says = stored-there w kept name t none says
   says-elsewhere (syntax.DeclareHistory at v h key b p d i t) (said_history made) none says = history-there at v h key b p d i t made says
   says-elsewhere (syntax.DeclareRule at w test) (said_rule name t) none says =
       (word-follows f w name says.0, test-elsewhere f some (rule_scope s) (rule_scope r) more alike types logs test t none says.1)
@@ -63,6 +76,7 @@ pub said-same : (d : Said) → moved_said (λ p. p) d ≡ d
 said-same (said_ordinal name names) = refl
 said-same (said_base name heading typed) = refl
 said-same (said_view name t) = ap (said_view name) (tree-same t)
+said-same (said_stored name t) = ap (said_stored name) (tree-same t)
 said-same (said_history made) = refl
 said-same (said_rule name t) = ap (said_rule name) (test-same t)
 

@@ -15,7 +15,7 @@ use Rattle.tree_core.specs.Relvars.{State, Entries, relvar_named}
 use Rattle.meaning_laws.specs.Likeness.{LikeIf, Alike}
 use Rattle.meaning_laws.proofs.ApartLemmas.{none-named, none-test-named}
 use Rattle.meaning_laws.proofs.LikeLemmas.{like-itself}
-use Rattle.typing_laws.specs.Saying.{Said, said_ordinal, said_base, said_view, said_history, said_rule, Says, names_other, references_other, said_names_any, ordinals_said, with_said, entries_said}
+use Rattle.typing_laws.specs.Saying.{Said, said_ordinal, said_base, said_view, said_stored, said_history, said_rule, Says, names_other, references_other, said_names_any, ordinals_said, with_said, entries_said}
 use Rattle.typing_laws.proofs.LogsAlike.{SameLogs, logs-behind}
 use Rattle.typing_laws.proofs.SaysElsewhere.{says-stays}
 
@@ -59,6 +59,7 @@ pub said-none : (d : Said) → said_names_any (λ name. false) d ≡ false
 said-none (said_ordinal name names) = refl
 said-none (said_base name heading typed) = none-among name typed
 said-none (said_view name t) = none-named t
+said-none (said_stored name t) = none-named t
 said-none (said_history made) = refl
 said-none (said_rule name t) = none-test-named t
 

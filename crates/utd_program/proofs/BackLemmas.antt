@@ -10,6 +10,7 @@ use Rattle.dump_core.specs.declared.refuse.DumpRefuse.TheVariants.{TooLong, Memo
 use Rattle.dump_core.specs.Inserts.{HaveRelations}
 use Rattle.dump_core.specs.Texts.{SourceText}
 use Rattle.assign_core.specs.Databases.{IsKept}
+use Rattle.assign_core.specs.Room.{HasStoredRoom}
 use Rattle.utd_session.specs.declared.status.Status.{Status}
 use Rattle.utd_session.specs.declared.status.Status.TheVariants.{WriteFailed, NoMemory, CannotDump}
 use Rattle.utd_session.specs.Status.{number_of}
@@ -23,8 +24,9 @@ use Rattle.utd_session.proofs.DumpLemmas.{dump_given, whole_at_end, short_at_end
 use Rattle.dump_laws.specs.Back.{GivesBack, IsBack, IsSound}
 use Rattle.dump_laws.proofs.BackLaws.{gives-back}
 
-pub sound : (database read : Database) → read_relvars read ≡ read_relvars database → IsKept (read_relvars read) → HaveRelations (read_relvars read).relvars → IsSound (state_of database)
-sound database read same kept relations = (subst IsKept same kept, subst (λ (s : State). HaveRelations s.relvars) same relations)
+pub sound : (database read : Database) → read_relvars read ≡ read_relvars database → IsKept (read_relvars read) → HaveRelations (read_relvars read).relvars → HasStoredRoom (read_relvars read)
+    → IsSound (state_of database)
+sound database read same kept relations room = (subst IsKept same kept, subst (λ (s : State). HaveRelations s.relvars) same relations, subst HasStoredRoom same room)
 
 -- ---- where there is no dump
 

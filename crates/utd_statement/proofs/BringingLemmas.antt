@@ -10,8 +10,9 @@ use Rattle.meaning_core.specs.Declarations.{counted}
 use Rattle.utd_syntax.specs.Plain.{Word, LiteralP, StatementP}
 use Rattle.assign_core.specs.Assignments.{assigned_in}
 use Rattle.assign_core.specs.Costs.{cost_of_assignments}
-use Rattle.assign_core.specs.Logs.{counted_if, is_brought, unless_full}
+use Rattle.assign_core.specs.Logs.{counted_if, is_brought}
 use Rattle.assign_core.specs.NewRows.{Arriving, brought_cost, brought_in, values_brought, HasRoomFor, HasRoomIf, IsBaseWith, IsBrought, IsFoundIf, IsGivenTo, IsListFor, IsPaidFor, IsToldOf, StaysUnless, TakesNoneIf}
+use Rattle.assign_core.specs.Room.{unless_full}
 use Rattle.assign_core.proofs.BroughtLemmas.{brought_beside, brought_costs}
 use Rattle.constant_laws.proofs.ListedPositions.{listed-is_list}
 use Rattle.constant_laws.specs.Insertions.{Bringing, Setting, Adding, AddingUnder, IsStatementOf}
@@ -67,7 +68,7 @@ module _ (start : Place) (bytes : List ℕ) (bringing : Bringing) (relvar : Name
     abbrev cost_meant : ℕ
     cost_meant = brought_cost state way done.at done.there relvar found.old brings.given
 
-    -- and so it is beside logs
+    -- and so it is beside logs and stored views
     beside_so : unless_full (values_brought state.relvars way done.at done.there done.assignment.target found.old brings.given) (brought_in state way done.at done.there done.assignment.target found.old brings.given)
         ≡ brought_in state way done.at done.there done.assignment.target found.old brings.given
     beside_so =

@@ -1,15 +1,13 @@
 -- What a database tells of a statement that it counts.
 --     assigned_text, assigned_refused      of assignments
---     opened_text, opened_refused      of a log that is declared
+--     allowed_text, allowed_refused      of a log or a stored view that is declared
 use Rattle.std.proofs.Common.{◌≡◌, ℕ, List, [], refl, sym, ap, subst, ◌∙◌, Vec, Global, Result, Ok, Err}
 use Rattle.value_core.specs.declared.refuse.Refuse.{Refuse}
 use Rattle.value_core.specs.declared.refuse.Refuse.TheVariants.{Plain, At, Broken, Memory}
-use Rattle.tree_core.specs.declared.declaration.LogData.{LogData}
 use Rattle.tree_core.specs.Items.{PlainAssignment}
 use Rattle.tree_core.specs.Relvars.{Entries, State}
 use Rattle.meaning_core.specs.Declarations.{counted}
 use Rattle.assign_core.specs.Assignments.{assigned_in, IsAssigned, IsDone, IsRefusedFor}
-use Rattle.assign_core.specs.Logs.{opened}
 use Rattle.utd_statement.specs.Answers.{if_allowed, unless_refused}
 use Rattle.utd_statement.specs.Replies.{IsPerformed, IsRefusedWith}
 
@@ -34,9 +32,9 @@ pub assigned_refused : (old mid new : State) (list : List PlainAssignment) (refu
     → IsPerformed (Err refuse) old new (unless_refused old (assigned_in old list))
 assigned_refused old mid new list refuse told e = (refused_with old refuse (assigned_in old list) told.0, e ∙ told.1)
 
-pub opened_text : (old mid new : State) (d : LogData) (text : Vec ℕ Global) → text.items ≡ [] → IsDone (Ok tt) old mid (opened old d) → new ≡ counted mid
-    → IsPerformed (Ok text) old new (if_allowed (opened old d))
-opened_text old mid new d text empty told e = subst (λ (r : Result State Refuse). IsPerformed (Ok text) old new (if_allowed r)) (sym told) (((λ n. empty), refl), e)
+pub allowed_text : (old mid new : State) (meant : Result State Refuse) (text : Vec ℕ Global) → text.items ≡ [] → IsDone (Ok tt) old mid meant → new ≡ counted mid
+    → IsPerformed (Ok text) old new (if_allowed meant)
+allowed_text old mid new meant text empty told e = subst (λ (r : Result State Refuse). IsPerformed (Ok text) old new (if_allowed r)) (sym told) (((λ n. empty), refl), e)
 
-pub opened_refused : (old mid new : State) (d : LogData) (refuse : Refuse) → IsDone (Err refuse) old mid (opened old d) → new ≡ mid → IsPerformed (Err refuse) old new (if_allowed (opened old d))
-opened_refused old mid new d refuse told e = (not_allowed refuse (opened old d) told.0, e ∙ told.1)
+pub allowed_refused : (old mid new : State) (meant : Result State Refuse) (refuse : Refuse) → IsDone (Err refuse) old mid meant → new ≡ mid → IsPerformed (Err refuse) old new (if_allowed meant)
+allowed_refused old mid new meant refuse told e = (not_allowed refuse meant told.0, e ∙ told.1)

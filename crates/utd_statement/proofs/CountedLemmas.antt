@@ -13,22 +13,21 @@ use Rattle.point_core.specs.Faults.{OrFault}
 use Rattle.value_core.specs.declared.refuse.Refuse.{Refuse}
 use Rattle.value_core.specs.declared.refuse.Refuse.TheVariants.{Broken, Plain as PlainRefusal}
 use Rattle.value_core.specs.Values.{Name}
-use Rattle.tree_core.specs.declared.declaration.LogData.{LogData}
 use Rattle.tree_core.specs.Relvars.{Entries, State}
-use Rattle.tree_core.specs.Trees.{Test}
+use Rattle.tree_core.specs.Trees.{Test, Tree}
 use Rattle.meaning_core.specs.Declarations.{PlainDeclaration, ordinal_type, base_relvar, view_relvar, counted, with_declaration, with_log, with_rule}
-use Rattle.meaning_core.specs.Logs.{turned_logs}
+use Rattle.meaning_core.specs.Meanings.{RowsMeant, meaning_in}
 use Rattle.meaning_core.specs.Truths.{holds_in, truth_in}
 use Rattle.assign_core.specs.Assignments.{assigned_in, constrained}
 use Rattle.assign_core.specs.Items.{assignments_of}
-use Rattle.assign_core.specs.Logs.{have_room}
+use Rattle.assign_core.specs.Room.{have_room, if_room, stored_if, with_stored}
 use Rattle.since_during.specs.Histories.{declared_history, declared_in}
 use Rattle.utd_syntax.specs.Plain.{StatementP}
-use Rattle.type_check.specs.Checks.{Plain, nothing, declare_ordinal, declare_base, declare_view, declare_history, declare_log, remove, declare_rule, remove_rule, assign, print, ask, checked}
+use Rattle.type_check.specs.Checks.{Plain, nothing, declare_ordinal, declare_base, declare_view, declare_kept, declare_history, declare_log, remove, declare_rule, remove_rule, assign, print, ask, checked}
 use Rattle.dump_core.specs.Texts.{SourceText}
 use Rattle.utd_statement.specs.declared.reply.Reply.{Reply}
 use Rattle.utd_statement.specs.Answers.{Answer, Done, Changed, Table, Truth, Refusal, answer, if_allowed, is_accepted, made_by, of_checked, of_tree, relation_in, state_after, unless_fault, unless_refused}
-use Rattle.utd_statement.specs.Readings.{Reading, Tree, Refused}
+use Rattle.utd_statement.specs.Readings.{Reading, Tree as TreeOf, Refused}
 use Rattle.utd_statement.specs.Replies.{IsAnswered, IsAnswerTo, IsMade, IsPerformed}
 
 -- ---- the state after an accepted statement
@@ -59,9 +58,16 @@ module _ (s : State) where
       by true = refl
       by false = refl
 
-  opened-count : (d : LogData) (b : Bool) → (made_by s (if_allowed (if b then Ok (with_log s d) else Err (PlainRefusal E46)))).accepted ≡ s.accepted
-  opened-count d true = refl
-  opened-count d false = refl
+  room-count : (new : State) → new.accepted ≡ s.accepted → (made_by s (if_allowed (if_room new))).accepted ≡ s.accepted
+  room-count new same = by (have_room new.relvars)
+    where
+      by : (b : Bool) → (made_by s (if_allowed (if b then Ok new else Err (PlainRefusal E46)))).accepted ≡ s.accepted
+      by true = same
+      by false = refl
+
+  stored-count : (name : Name) (t : Tree) (meant : RowsMeant) → (made_by s (if_allowed (stored_if meant s name t))).accepted ≡ s.accepted
+  stored-count name t (Ok rows) = room-count (with_stored s name t) refl
+  stored-count name t (Err fault) = refl
 
   refused-count : (r : Result Entries Refuse) → (made_by s (unless_refused s r)).accepted ≡ s.accepted
   refused-count (Ok entries) = refl
@@ -76,8 +82,9 @@ module _ (s : State) where
   checked-count (declare_ordinal d) = declared-count s d
   checked-count (declare_base d) = declared-count s d
   checked-count (declare_view d) = declared-count s d
+  checked-count (declare_kept name t) = stored-count name t (meaning_in s.relvars t)
   checked-count (declare_history h) = list-count (declared_history h) s
-  checked-count (declare_log d) = opened-count d (have_room (turned_logs (with_log s d).relvars))
+  checked-count (declare_log d) = room-count (with_log s d) refl
   checked-count (remove name) = refl
   checked-count (declare_rule name t) = allowed-count name t
   checked-count (remove_rule name) = refl
@@ -110,7 +117,7 @@ after-rises s (Truth b) e = omega (arith, ints)
 after-rises s (Refusal refuse) e = omega (arith, ints)
 
 reading-rises : (s : State) (r : Reading) → RisesByOne s (state_after s (answer s r))
-reading-rises s (Tree tree) = after-rises s (of_tree s tree) (tree-count s tree)
+reading-rises s (TreeOf tree) = after-rises s (of_tree s tree) (tree-count s tree)
 reading-rises s (Refused refuse) = omega (arith, ints)
 
 pub replied-count : (result : Result Reply NoMemory) (n : ℕ) (old new : State) (tree : StatementP) → IsAnswered result n old new (of_tree old tree) → RisesByOne old new

@@ -17,10 +17,10 @@ use Rattle.meaning_core.specs.Meanings.{meaning_in}
 use Rattle.meaning_core.specs.Truths.{truth_in}
 use Rattle.assign_core.specs.Assignments.{assigned_in, constrained}
 use Rattle.assign_core.specs.Items.{assignments_of}
-use Rattle.assign_core.specs.Logs.{opened}
+use Rattle.assign_core.specs.Room.{opened, stored_in}
 use Rattle.since_during.specs.Histories.{declared_history, declared_in}
 use Rattle.utd_syntax.specs.Plain.{StatementP}
-use Rattle.type_check.specs.Checks.{Plain, nothing, declare_ordinal, declare_base, declare_view, declare_history, declare_log, remove, declare_rule, remove_rule, assign, print, ask, checked}
+use Rattle.type_check.specs.Checks.{Plain, nothing, declare_ordinal, declare_base, declare_view, declare_kept, declare_history, declare_log, remove, declare_rule, remove_rule, assign, print, ask, checked}
 use Rattle.utd_print.specs.Lines.{refusal_line, truth_line}
 use Rattle.utd_print.specs.Tables.{table}
 use Rattle.utd_statement.specs.Readings.{Reading, Tree as TreeOf, Refused}
@@ -59,6 +59,7 @@ of_checked state nothing = Done
 of_checked state (declare_ordinal d) = Changed (with_declaration state d)
 of_checked state (declare_base d) = Changed (with_declaration state d)
 of_checked state (declare_view d) = Changed (with_declaration state d)
+of_checked state (declare_kept name t) = if_allowed (stored_in state name t)
 of_checked state (declare_history h) = Changed (declared_in state (declared_history h))
 of_checked state (declare_log d) = if_allowed (opened state d)
 of_checked state (remove name) = Changed (without_group name state)

@@ -6,19 +6,22 @@ use Rattle.std.specs.Prelude.{◌≡◌, ◌⊎◌, ◌≤◌, ◌+◌, ℕ, Lis
 use Rattle.point_core.specs.declared.fault.Place.{Place}
 use Rattle.point_core.specs.Faults.{OrFault}
 use Rattle.tree_core.specs.Relvars.{State}
+use Rattle.stored_views.specs.Stored.{made_cost}
 use Rattle.algebra_core.specs.Costs.{cost_in, test_cost}
 use Rattle.assign_core.specs.Costs.{cost_of_assignments}
 use Rattle.assign_core.specs.Items.{assignments_of}
 use Rattle.utd_syntax.specs.Plain.{StatementP}
-use Rattle.type_check.specs.Checks.{Plain, nothing, declare_ordinal, declare_base, declare_view, declare_history, declare_log, remove, declare_rule, remove_rule, assign, print, ask, checked}
+use Rattle.type_check.specs.Checks.{Plain, nothing, declare_ordinal, declare_base, declare_view, declare_kept, declare_history, declare_log, remove, declare_rule, remove_rule, assign, print, ask, checked}
 use Rattle.utd_statement.specs.Readings.{Reading, Tree, Refused, IsText}
 
--- the steps of the expression that is printed, of the test that is asked or declared, or of the sources and the constraints of assignments
+-- The steps of the expression that is printed, of the test that is asked or declared, or of the rows of a stored view that is declared.
+-- Assignments take those of their sources, of the stored views that move with their targets, and of the constraints.
 abbrev pub cost_of_checked : State → Plain → ℕ
 cost_of_checked state nothing = 0
 cost_of_checked state (declare_ordinal d) = 0
 cost_of_checked state (declare_base d) = 0
 cost_of_checked state (declare_view d) = 0
+cost_of_checked state (declare_kept name t) = made_cost state.relvars t
 cost_of_checked state (declare_history h) = 0
 cost_of_checked state (declare_log d) = 0
 cost_of_checked state (remove name) = 0

@@ -53,10 +53,11 @@ fn put<L: Ledger>(
     }
 }
 
-/// What a statement writes that brings rows, or why it is refused: performed straight from its bytes, with no tree. It is left, and changes
-/// nothing, where its bytes are none of these, where its relvar is none with the rows' heading, where that might have too many rows, and where
-/// they come under a list of several attributes. Where there is a log, it is left too unless it simply adds rows, where the relvar has several
-/// logs, and where base relvars or logs might have too many rows.
+/// What a statement writes that brings rows, or why it is refused: performed straight from its bytes, with no tree.
+///
+/// It is left, and changes nothing, where its bytes are none of these, where its relvar is none with the rows' heading, and where there is a
+/// stored view. It is left too where the relvar might have too many rows, and where they come under a list of several attributes. Where there
+/// is a log, it is left unless it simply adds rows, where the relvar has several logs, and where base relvars or logs might have too many rows.
 pub(crate) fn bring<L: Ledger>(
     alloc: Global,
     text: &[u8],

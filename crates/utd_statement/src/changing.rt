@@ -4,17 +4,19 @@ ghost use Rattle.std.specs.List.{All};
 ghost use Rattle.point_core.specs.Whole.{greatest_whole};
 ghost use Rattle.tree_core.specs.Items.{read_item};
 ghost use Rattle.tree_core.specs.Relvars.{read_relvars};
-ghost use Rattle.tree_core.specs.Trees.{read_test};
+ghost use Rattle.tree_core.specs.Trees.{read_test, read_tree};
 ghost use Rattle.meaning_core.specs.Declarations.{read_declaration, with_declaration, with_rule, without_group, without_rule};
 ghost use Rattle.meaning_core.specs.Updates.{IsTypedItem, IsTypedLog};
 ghost use Rattle.meaning_core.specs.WellMade.{IsWellMade};
+ghost use Rattle.stored_views.specs.Operands.{IsStoredFor};
+ghost use Rattle.stored_views.specs.Stored.{made_cost};
 ghost use Rattle.since_during.specs.Histories.{declared_history, declared_in, IsTypedHistory};
 ghost use Rattle.algebra_core.specs.Costs.{test_cost};
 ghost use Rattle.assign_core.specs.Assignments.{assigned_in, constrained};
 ghost use Rattle.assign_core.specs.Costs.{cost_of_assignments};
 ghost use Rattle.assign_core.specs.Databases.{IsKept};
 ghost use Rattle.assign_core.specs.Items.{assignments_of};
-ghost use Rattle.assign_core.specs.Logs.{opened};
+ghost use Rattle.assign_core.specs.Room.{opened, stored_in, with_stored};
 ghost use Rattle.utd_statement.specs.Answers.{Changed, if_allowed, unless_refused};
 ghost use Rattle.utd_statement.specs.Replies.{IsMade, IsPerformed};
 
@@ -23,7 +25,7 @@ use point_core::Steps;
 use since_during::declare_history;
 use std::alloc::Global;
 use std::sync::ledger::Ledger;
-use tree_core::{Declaration, HistoryData, Items, LogData, RelTest};
+use tree_core::{Declaration, HistoryData, Items, LogData, RelTest, RelTree};
 use value_core::{Name, Refuse};
 
 /// Declares an ordinal type, a relvar or a view.
@@ -117,5 +119,23 @@ pub fn opened(alloc: Global, log: LogData, database: &mut Database) -> Result<Ve
     ensures { IsPerformed result (read_relvars database.old) (read_relvars database.new) (if_allowed (opened (read_relvars database.old) log)) }
 {
     database.open_log(log)?;
+    Ok(Vec::new(alloc))
+}
+
+/// Declares a view whose rows are stored, and counts the statement; or refuses and changes nothing.
+pub fn kept<L: Ledger>(
+    alloc: Global,
+    name: Name,
+    tree: RelTree,
+    database: &mut Database,
+    steps: &mut Steps<L>,
+) -> Result<Vec<u8>, Refuse>
+    requires room { ((read_relvars database.old).accepted +ℤ pos 1) <ℤ greatest_whole }
+    requires made { IsWellMade (with_stored (read_relvars database.old) name (read_tree tree)) }
+    requires typed { IsStoredFor (read_relvars database.old) (read_tree tree) }
+    ensures performed { IsPerformed result (read_relvars database.old) (read_relvars database.new) (if_allowed (stored_in (read_relvars database.old) name (read_tree tree))) }
+    ensures cost { steps.new ≤ steps.old + made_cost (read_relvars database.old).relvars (read_tree tree) }
+{
+    database.keep(name, tree, steps)?;
     Ok(Vec::new(alloc))
 }

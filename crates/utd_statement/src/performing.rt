@@ -4,6 +4,7 @@ ghost use Rattle.point_core.specs.Whole.{greatest_whole};
 ghost use Rattle.utd_syntax.specs.Read.{read_statement};
 ghost use Rattle.tree_core.specs.Relvars.{read_relvars, State};
 ghost use Rattle.tree_core.specs.Trees.{read_tree, read_test};
+ghost use Rattle.meaning_core.specs.StoredRows.{AreStored};
 ghost use Rattle.meaning_core.specs.WellMade.{IsWellMade, IsTypedFor, IsTypedTestFor};
 ghost use Rattle.assign_core.specs.Databases.{IsKept};
 ghost use Rattle.type_check.specs.Checks.{print, ask, checked, read_checked, IsTypedPlain};
@@ -12,7 +13,7 @@ ghost use Rattle.utd_statement.specs.Costs.{cost_of_checked, cost_of_tree};
 ghost use Rattle.utd_statement.specs.Replies.{IsMade, IsPerformed};
 
 use crate::changing::{
-    assigned, constrained, declared, history_declared, opened, removed, unconstrained,
+    assigned, constrained, declared, history_declared, kept, opened, removed, unconstrained,
 };
 use algebra_core::{eval, test};
 use assign_core::Database;
@@ -23,21 +24,23 @@ use tree_core::{RelTest, RelTree, Relvars};
 use type_check::{Checked, check};
 use utd_print::{table, truth_line};
 use utd_syntax::Statement;
-use value_core::Refuse;
+use value_core::{Refuse, Relation};
 
 // The table of the relation that an expression means.
 fn printed<L: Ledger>(
     alloc: Global,
     tree: &RelTree,
     relvars: &Relvars,
+    stored: &[Option<Relation>],
     steps: &mut Steps<L>,
 ) -> Result<Vec<u8>, Refuse>
     requires well_made { IsWellMade (read_relvars relvars.now) }
     requires typed { IsTypedFor (read_relvars relvars.now) (read_tree tree.now) }
+    requires stored { AreStored (read_relvars relvars.now).relvars stored.now }
     ensures performed { IsMade result (read_relvars relvars.now) (read_relvars relvars.now) (of_checked (read_relvars relvars.now) (print (read_tree tree.now))) }
     ensures cost { steps.new ≤ steps.old + cost_of_checked (read_relvars relvars.now) (print (read_tree tree.now)) }
 {
-    let relation = eval(alloc, tree, relvars, None, None, steps)?;
+    let relation = eval(alloc, tree, relvars, stored, None, None, steps)?;
     Ok(table(alloc, &relation, &relvars.ordinals)?)
 }
 
@@ -46,14 +49,16 @@ fn asked<L: Ledger>(
     alloc: Global,
     question: &RelTest,
     relvars: &Relvars,
+    stored: &[Option<Relation>],
     steps: &mut Steps<L>,
 ) -> Result<Vec<u8>, Refuse>
     requires well_made { IsWellMade (read_relvars relvars.now) }
     requires typed { IsTypedTestFor (read_relvars relvars.now) (read_test question.now) }
+    requires stored { AreStored (read_relvars relvars.now).relvars stored.now }
     ensures performed { IsMade result (read_relvars relvars.now) (read_relvars relvars.now) (of_checked (read_relvars relvars.now) (ask (read_test question.now))) }
     ensures cost { steps.new ≤ steps.old + cost_of_checked (read_relvars relvars.now) (ask (read_test question.now)) }
 {
-    let holds = test(alloc, question, relvars, steps)?;
+    let holds = test(alloc, question, relvars, stored, steps)?;
     Ok(Vec::from_slice(alloc, truth_line(holds))?)
 }
 
@@ -87,6 +92,7 @@ fn performed_typed<L: Ledger>(
     match typed {
         Checked::Assign(items) => assigned(alloc, &items, database, steps),
         Checked::Log(data) => opened(alloc, data, database),
+        Checked::Kept(name, tree) => kept(alloc, name, tree, database, steps),
         Checked::Nothing => {
             let made = Ok(Vec::new(alloc));
             counted(database, made)
@@ -120,11 +126,17 @@ fn performed_typed<L: Ledger>(
             counted(database, made)
         }
         Checked::Print(tree) => {
-            let made = printed(alloc, &tree, database.relvars(), steps);
+            let made = printed(alloc, &tree, database.relvars(), database.stored(), steps);
             counted(database, made)
         }
         Checked::Ask(question) => {
-            let made = asked(alloc, &question, database.relvars(), steps);
+            let made = asked(
+                alloc,
+                &question,
+                database.relvars(),
+                database.stored(),
+                steps,
+            );
             counted(database, made)
         }
     }

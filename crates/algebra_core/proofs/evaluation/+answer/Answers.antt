@@ -1,4 +1,4 @@
-use Rattle.std.proofs.Common.{◌≡◌, ◌≤◌, ◌+◌, ℕ, List, ◌∷◌, [], length, map, refl, sym, ap, ◌∙◌, subst, arith, rules, IsTrue}
+use Rattle.std.proofs.Common.{◌≡◌, ◌≤◌, ◌+◌, ℕ, List, ◌∷◌, [], length, map, refl, sym, ap, ◌∙◌, subst, arith, rules, IsTrue, Some, None, Ok}
 use Rattle.std.specs.List.{All}
 use Rattle.std.specs.Str.{bytes_eq}
 use Rattle.base_core.specs.Outcomes.{then_give}
@@ -25,13 +25,14 @@ use Rattle.eval_using.specs.Cells.{scalars_of}
 use Rattle.eval_using.specs.Using.{around}
 use Rattle.algebra_core.specs.Costs.{known_of, operator_cost, rule_cost, tree_cost, paid}
 use Rattle.algebra_core.specs.Operands.{held}
-use Rattle.algebra_core.specs.Scopes.{CanEvaluate, CanLookUp, known_at, prices_at, state_of, all_of, work, stored_work, stored_meaning}
+use Rattle.algebra_core.specs.Scopes.{CanEvaluate, CanLookUp, known_at, prices_at, state_of, all_of, work, entry_work, entry_meaning, entry_cost, stored_rows}
 use Rattle.algebra_core.specs.Surroundings.{around_of, KeepsList, IsSwept, AreSwept, AreSummed}
 use Rattle.algebra_core.specs.declared.scope.Scope.{Scope}
 use Rattle.meaning_core.proofs.LookupLemmas.{found_at, none_passes, heading_read}
 use Rattle.algebra_core.proofs.CostLemmas.{price_first}
 use Rattle.algebra_core.proofs.EvalLemmas.{stands_before, can_look_up, work_falls, named_meant, view_can, base_meant, none_named}
 use Rattle.algebra_core.proofs.NodeLemmas.{failed_cost, headed_at, value_at, cost_at}
+use Rattle.algebra_core.proofs.StoredLemmas.{stored_meant, evaluated_cost}
 use Rattle.algebra_core.proofs.SurroundingLemmas.{infix_part, project_part, restrict_part, extend_part, summarize_part}
 use Rattle.algebra_core.proofs.evaluation.+answer.Goals as goal
 
@@ -229,8 +230,8 @@ infix-returns-in_err-right-clause-cost g t c =
     (failed_cost c.operand.new.steps c.operand-2.new.steps (tree_cost (prices_at c.args.scope.now) plainly (read_tree c.args.r.now))
     (paid (meaning (known_of (prices_at c.args.scope.now)) plainly (read_tree c.args.r.now)) (λ b. operator_cost surrounding (length (held c.in_ok-left.left).rows + length b))) c.operand-2.ensures.cost)
 
-pub named-stored-requires : goal.named-stored-requires
-named-stored-requires g t c =
+pub named-looked_up-requires : goal.named-looked_up-requires
+named-looked_up-requires g t c =
     let x = read_relvar c.in-Some.relvar.now in
     let first : IsFirstAt (all_of c.args.scope.now) c.args.name.now c.in-Some.at (read_relvar c.in-Some.relvar.now) =
     found_at c.args.scope.now.relvars.now.list.entries c.args.name.now c.in-Some.field-0-1.now c.in-Some.at c.in-Some.relvar.now (sym c.in-Some.ensures.index) c.in-Some.ensures.entry in
@@ -248,7 +249,7 @@ named-returns-clause-value g t c =
     let first : IsFirstAt (all_of c.args.scope.now) c.args.name.now c.in-Some.at (read_relvar c.in-Some.relvar.now) =
     found_at c.args.scope.now.relvars.now.list.entries c.args.name.now c.in-Some.field-0-1.now c.in-Some.at c.in-Some.relvar.now (sym c.in-Some.ensures.index) c.in-Some.ensures.entry in
     named_meant c.args.scope.now c.args.place c.args.heading.now c.args.name.now c.in-Some.at x c.requires first c.or_fault_at_name.result
-    (c.or_fault_at_name.ensures (relvar_heading x) (stored_meaning c.args.scope.now c.args.name.now c.in-Some.at x) c.stored.ensures.value)
+    (c.or_fault_at_name.ensures (relvar_heading x) (entry_meaning c.args.scope.now c.args.name.now c.in-Some.at x) c.looked_up.ensures.value)
 
 pub named-returns-clause-cost : goal.named-returns-clause-cost
 named-returns-clause-cost g t c =
@@ -256,23 +257,40 @@ named-returns-clause-cost g t c =
     let first : IsFirstAt (all_of c.args.scope.now) c.args.name.now c.in-Some.at (read_relvar c.in-Some.relvar.now) =
     found_at c.args.scope.now.relvars.now.list.entries c.args.name.now c.in-Some.field-0-1.now c.in-Some.at c.in-Some.relvar.now (sym c.in-Some.ensures.index) c.in-Some.ensures.entry in
     let before = (stands_before c.args.scope.now c.args.place c.args.heading.now c.args.name.now c.in-Some.at x c.requires first).0 in
-    subst (λ (n : ℕ). c.stored.new.steps ≤ c.args.steps.now + n) (sym (price_first c.args.scope.now c.args.name.now c.in-Some.at x first before)) c.stored.ensures.cost
+    subst (λ (n : ℕ). c.looked_up.new.steps ≤ c.args.steps.now + n) (sym (price_first c.args.scope.now c.args.name.now c.in-Some.at x first before)) c.looked_up.ensures.cost
 
-pub stored-answer-requires : goal.stored-answer-requires
-stored-answer-requires g t c = λ κs within.
+pub looked_up-answer-requires : goal.looked_up-answer-requires
+looked_up-answer-requires g t c = λ κs within.
     let can = subst (λ (r : Relvar). CanLookUp c.args.scope.now c.args.name.now c.args.at (read_relvar r)) c.in-View.is c.requires in
     let here = ap (λ (s : Scope). work s (read_tree c.in-View.tree)) c.earlier-before.ensures in
-    let there = ap (λ (r : Relvar). stored_work c.args.scope.now c.args.at (read_relvar r)) c.in-View.is in
+    let there = ap (λ (r : Relvar). entry_work c.args.scope.now c.args.at (read_relvar r)) c.in-View.is in
     let before = subst (λ (s : Scope). CanEvaluate s (read_tree c.in-View.tree)) (sym c.earlier-before.ensures)
     (view_can c.args.scope.now c.args.name.now c.args.at (read_tree c.in-View.tree) (read_kind c.in-View.kind) can) in
     (omega (arith, here, there), (within, (before, record { list = tt; part = tt })))
 
-pub stored-returns-in-Base-clause-value : goal.stored-returns-in-Base-clause-value
-stored-returns-in-Base-clause-value g t c =
+pub looked_up-returns-in-Base-clause-value : goal.looked_up-returns-in-Base-clause-value
+looked_up-returns-in-Base-clause-value g t c =
     let can = subst (λ (r : Relvar). CanLookUp c.args.scope.now c.args.name.now c.args.at (read_relvar r)) c.in-Base.is c.requires in
     let same = base_meant c.args.scope.now c.args.name.now c.args.at c.in-Base.value c.in-Base.constraints can in
-    subst (λ (r : Relvar). Answers c.base_value.result (under (relvar_heading (read_relvar r)) (stored_meaning c.args.scope.now c.args.name.now c.args.at (read_relvar r)))) (sym c.in-Base.is)
+    subst (λ (r : Relvar). Answers c.base_value.result (under (relvar_heading (read_relvar r)) (entry_meaning c.args.scope.now c.args.name.now c.args.at (read_relvar r)))) (sym c.in-Base.is)
     (subst (λ (m : OrFault Relation). Answers c.base_value.result m) (sym same) c.base_value.ensures)
+
+pub looked_up-returns-in_ok-relation-in-Some-clause-value : goal.looked_up-returns-in_ok-relation-in-Some-clause-value
+looked_up-returns-in_ok-relation-in-Some-clause-value g t c =
+    let s = c.args.scope.now in
+    let v = c.in_ok-relation-in-Some.relation in
+    let can = subst (λ (r : Relvar). CanLookUp s c.args.name.now c.args.at (read_relvar r)) c.in-View.is c.requires in
+    let rows : stored_rows s c.args.at (read_tree c.in-View.tree) (read_kind c.in-View.kind) ≡ Some v = search rules in
+    subst (λ (r : Relvar). under (relvar_heading (read_relvar r)) (entry_meaning s c.args.name.now c.args.at (read_relvar r)) ≡ Ok v) (sym c.in-View.is)
+    (stored_meant s c.args.name.now c.args.at (read_tree c.in-View.tree) (read_kind c.in-View.kind) v can rows)
+
+pub looked_up-returns-in-None-clause-cost : goal.looked_up-returns-in-None-clause-cost
+looked_up-returns-in-None-clause-cost g t c =
+    let s = c.args.scope.now in
+    let can = subst (λ (r : Relvar). CanLookUp s c.args.name.now c.args.at (read_relvar r)) c.in-View.is c.requires in
+    let none : stored_rows s c.args.at (read_tree c.in-View.tree) (read_kind c.in-View.kind) ≡ None = search rules in
+    let told = evaluated_cost s c.earlier-before.result c.args.name.now c.args.at (read_tree c.in-View.tree) (read_kind c.in-View.kind) c.args.steps.now c.answer.new.steps can none c.earlier-before.ensures c.answer.ensures.cost in
+    subst (λ (r : Relvar). c.answer.new.steps ≤ c.args.steps.now + entry_cost s c.args.at (read_relvar r)) (sym c.in-View.is) told
 
 pub using-answer-requires : goal.using-answer-requires
 using-answer-requires g t c = λ κs within.
@@ -283,7 +301,7 @@ using-answer-requires g t c = λ κs within.
     let is : IsTrue (is_part (names_at (heading_of part) c.as_slice.result.now) part) =
     subst (λ (l : List ℕ). IsTrue (is_part (names_at (heading_of part) l) part)) (sym list)
     (subst (λ (h : Heading). IsTrue (is_part (names_at h c.args.commalist.now) part)) c.requires.typed.2 c.requires.typed.3) in
-    (omega arith, (within, (record { relvars = c.requires.relvars; given = c.requires.given; typed = c.requires.typed.0 }, record { list = listed; part = is })))
+    (omega arith, (within, (record { relvars = c.requires.relvars; given = c.requires.given; stored = c.requires.stored; typed = c.requires.typed.0 }, record { list = listed; part = is })))
 
 pub using-returns-clause-value : goal.using-returns-clause-value
 using-returns-clause-value g t c =

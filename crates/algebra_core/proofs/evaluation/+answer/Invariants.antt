@@ -2,7 +2,7 @@ use Rattle.std.proofs.Common.{◌+◌, ◌*◌, map}
 use Rattle.scalar_core.specs.Expressions.{read}
 use Rattle.tree_core.specs.Relvars.{read_relvar}
 use Rattle.tree_core.specs.Trees.{read_tree, read_sets, read_aggregate, named, infix_of, project, rename, restrict, extend, summarize, pack, unpack, using}
-use Rattle.algebra_core.specs.Scopes.{work, stored_work}
+use Rattle.algebra_core.specs.Scopes.{work, entry_work}
 use Rattle.algebra_core.proofs.evaluation.+answer.Given as goal
 
 abbrev pub decreases-answer : goal.decreases-answer
@@ -14,8 +14,8 @@ decreases-operand g l = 4 * work l.scope.now (read_tree l.tree.now) + 2
 abbrev pub decreases-named : goal.decreases-named
 decreases-named g l = 4 * work l.scope.now (named l.place l.heading.now l.name.now)
 
-abbrev pub decreases-stored : goal.decreases-stored
-decreases-stored g l = 4 * stored_work l.scope.now l.at (read_relvar l.relvar.now) + 2
+abbrev pub decreases-looked_up : goal.decreases-looked_up
+decreases-looked_up g l = 4 * entry_work l.scope.now l.at (read_relvar l.relvar.now) + 2
 
 abbrev pub decreases-infix : goal.decreases-infix
 decreases-infix g l = 4 * work l.scope.now (infix_of l.tree.now.place l.tree.now.heading l.word (read_tree l.l.now) (read_tree l.r.now))

@@ -17,6 +17,6 @@ returns-in-Some c =
     let heading = c.args.tree.now.heading in
     let x = read_relvar c.in-Some.relvar.now in
     let can = subst (λ (f : RelForm). CanEvaluate s (read_form place heading f)) c.in-Named.is c.requires in
-    let first = found_at s.relvars.now.list.entries c.in-Named.name c.in-Some.field-0-1.now c.in-Some.field-0-0 c.in-Some.relvar.now (sym c.in-Some.ensures.index) c.in-Some.ensures.entry in
+    let first = found_at s.relvars.now.list.entries c.in-Named.name c.in-Some.field-0-1.now c.in-Some.at c.in-Some.relvar.now (sym c.in-Some.ensures.index) c.in-Some.ensures.entry in
     subst (λ (f : RelForm). IfSome c.kept_at.result (λ v. under heading (meaning (known_at s) plainly (read_form place heading f)) ≡ Ok v.now)) (sym c.in-Named.is)
-    (IfSome_then c.kept_at.result c.kept_at.ensures (λ v k. kept_meant s place heading c.in-Named.name c.in-Some.field-0-0 x v.now can first k))
+    (IfSome_then c.kept_at.result c.kept_at.ensures (λ v k. kept_meant s place heading c.in-Named.name c.in-Some.at x v.now can first k))

@@ -1,14 +1,18 @@
-use Rattle.std.proofs.Common.{map, sym, subst, refl, ◌∙◌, Ok, Err, ℤ, pos, ◌+ℤ◌, ◌<ℤ◌}
+use Rattle.std.proofs.Common.{[], map, sym, subst, refl, ◌∙◌, Ok, Err, ℤ, pos, ◌+ℤ◌, ◌<ℤ◌}
 use Rattle.std.proofs.lemmas.Result.{err_from_is_err_and}
 use Rattle.point_core.specs.Whole.{greatest_whole}
 use Rattle.tree_core.specs.Items.{read_assignment}
 use Rattle.tree_core.specs.Relvars.{read_relvars}
+use Rattle.stored_views.proofs.UnstoredLemmas.{unstored}
 use Rattle.assign_core.specs.Databases.{IsKept}
 use Rattle.assign_core.specs.Exchanges.{with_ready}
 use Rattle.assign_core.proofs.LogLemmas.{assigned_without_logs, settled_logs, turned_kept}
 use Rattle.assign_core.proofs.RenewedLemmas.{settled_keeps}
 use Rattle.assign_core.proofs.RuleLemmas.{refused_before, settled_assigned}
 use Rattle.assign_core.proofs.assigning.assign_alone.Goals as goal
+
+pub prepare-requires-clause-stored : goal.prepare-requires-clause-stored
+prepare-requires-clause-stored g c = unstored (read_relvars c.args.relvars.now).relvars [] c.requires.unstored
 
 pub returns-in_err-fill-clause-assigned : goal.returns-in_err-fill-clause-assigned
 returns-in_err-fill-clause-assigned g c =

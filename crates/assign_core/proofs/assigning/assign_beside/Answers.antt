@@ -3,6 +3,7 @@ use Rattle.std.proofs.lemmas.Result.{err_from_is_err_and}
 use Rattle.tree_core.specs.Items.{read_assignment}
 use Rattle.tree_core.specs.Relvars.{State, read_relvars}
 use Rattle.relvar_logs.specs.Turning.{AreNext}
+use Rattle.stored_views.proofs.UnstoredLemmas.{unstored}
 use Rattle.assign_core.specs.Assignments.{unless_broken, unless_rule_broken}
 use Rattle.assign_core.specs.Databases.{IsKept}
 use Rattle.assign_core.specs.Exchanges.{with_ready}
@@ -12,6 +13,9 @@ use Rattle.assign_core.proofs.LogLemmas.{hashed_turned, turned_kept}
 use Rattle.assign_core.proofs.RenewedLemmas.{settled_keeps}
 use Rattle.assign_core.proofs.RuleLemmas.{refused_before, settled_assigned}
 use Rattle.assign_core.proofs.assigning.assign_beside.Goals as goal
+
+pub prepare-requires-clause-stored : goal.prepare-requires-clause-stored
+prepare-requires-clause-stored g c = unstored (read_relvars c.args.relvars.now).relvars [] c.requires.unstored
 
 pub returns-in_err-fill-clause-assigned : goal.returns-in_err-fill-clause-assigned
 returns-in_err-fill-clause-assigned g c =

@@ -1,9 +1,13 @@
-use Rattle.std.proofs.Common.{map, refl}
+use Rattle.std.proofs.Common.{[], map, refl}
 use Rattle.std.proofs.lemmas.Result.{err_from_is_err_and}
 use Rattle.tree_core.specs.Items.{read_assignment}
 use Rattle.tree_core.specs.Relvars.{read_relvars}
+use Rattle.stored_views.proofs.UnstoredLemmas.{unstored}
 use Rattle.assign_core.proofs.LogLemmas.{refused_full}
 use Rattle.assign_core.proofs.assigning.assign_logged.Goals as goal
+
+pub prepare_beside-requires-clause-stored : goal.prepare_beside-requires-clause-stored
+prepare_beside-requires-clause-stored g c = unstored (read_relvars c.args.relvars.now).relvars [] c.requires.unstored
 
 pub returns-in_err-fill-clause-assigned : goal.returns-in_err-fill-clause-assigned
 returns-in_err-fill-clause-assigned g c =

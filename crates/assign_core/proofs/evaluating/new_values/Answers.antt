@@ -10,12 +10,18 @@ use Rattle.assign_core.proofs.AssignedLemmas.{from_none}
 use Rattle.assign_core.proofs.ChangeLemmas.{none_are}
 use Rattle.assign_core.proofs.CostLemmas.{cost_from_none}
 use Rattle.assign_core.proofs.LogLemmas.{fault_given}
+use Rattle.assign_core.proofs.RenewedNames.{none_renewed}
 use Rattle.assign_core.proofs.evaluating.new_values.Goals as goal
 
 pub evaluate-requires-clause-changes : goal.evaluate-requires-clause-changes
 evaluate-requires-clause-changes g c =
     let raw = c.args.relvars.now.list.entries in
     subst (λ (cs : Changes). AreChanges cs (map read_entry raw)) (sym c.in_ok-changes.ensures) (none_are raw)
+
+pub evaluate-requires-clause-none : goal.evaluate-requires-clause-none
+evaluate-requires-clause-none g c =
+    let raw = c.args.relvars.now.list.entries in
+    none_renewed c.in_ok-changes.changes.items (length raw) (map read_entry raw) c.in_ok-changes.ensures
 
 pub returns-in_err-evaluate-clause-value : goal.returns-in_err-evaluate-clause-value
 returns-in_err-evaluate-clause-value g c =

@@ -1,4 +1,4 @@
-use Rattle.std.proofs.Common.{refl, sym, subst, None, Bool, Ok}
+use Rattle.std.proofs.Common.{refl, sym, subst, ◌∙◌, None, Bool, Ok}
 use Rattle.tree_core.specs.Relvars.{State, read_relvars}
 use Rattle.meaning_core.specs.Logs.{AreInStep}
 use Rattle.assign_core.specs.Databases.{IsKept}
@@ -6,6 +6,7 @@ use Rattle.assign_core.specs.Hashed.{AreHashed}
 use Rattle.assign_core.specs.NewRows.{joining, IsToldOf}
 use Rattle.assign_core.proofs.GainedLemmas.{gains, has_room_for, is_back, once, within}
 use Rattle.assign_core.proofs.LogLemmas.{hashed_turned, turned_kept}
+use Rattle.assign_core.proofs.UnstoredLemmas.{unstored_counted, unstored_same}
 use Rattle.assign_core.proofs.gaining.bring_gained.Goals as goal
 
 pub count_change-requires-clause-once : goal.count_change-requires-clause-once
@@ -103,3 +104,23 @@ pub returns-in-Err-clause-beside : goal.returns-in-Err-clause-beside
 returns-in-Err-clause-beside g c =
     let gain = c.requires.gain in
     has_room_for (read_relvars c.args.relvars.now) c.args.target.now c.args.rows c.args.gain.now.at gain.old c.requires.kept c.requires.step gain.may
+
+pub returns-in-Ok-clause-unstored : goal.returns-in-Ok-clause-unstored
+returns-in-Ok-clause-unstored g c =
+    unstored_counted (read_relvars c.args.relvars.now) (read_relvars c.bring.new.relvars) (read_relvars c.count_change.new.relvars) c.requires.unstored c.in-Ok-true.ensures.logs c.in-Ok.ensures.counted
+
+pub returns-in-Err-count_change-clause-unstored : goal.returns-in-Err-count_change-clause-unstored
+returns-in-Err-count_change-clause-unstored g c =
+    let s = read_relvars c.args.relvars.now in
+    let mid = read_relvars c.bring.new.relvars in
+    let gain = c.requires.gain in
+    let told = subst (λ (b : Bool). IsToldOf (joining None) (Ok b) s mid c.args.target.now c.args.rows) c.in-Ok-true.field-0-test c.in-Ok-true.ensures.brought in
+    unstored_same s (read_relvars c.take_back.new.relvars) c.requires.unstored
+    (is_back s c.args.target.now c.args.rows c.args.gain.now.at gain.old c.requires.kept c.requires.step gain.may mid told c.args.gain.now.rows.come c.count_change.new.relvars c.take_back.new.relvars gain.new
+    c.in-Err-count_change.ensures.err c.take_back.ensures.list c.take_back.ensures.ordinals c.take_back.ensures.rules c.take_back.ensures.accepted)
+
+pub returns-in-Ok-false-clause-unstored : goal.returns-in-Ok-false-clause-unstored
+returns-in-Ok-false-clause-unstored g c = (c.bring.ensures.logs.2 ∙ c.requires.unstored, c.bring.ensures.logs.3)
+
+pub returns-in-Err-clause-unstored : goal.returns-in-Err-clause-unstored
+returns-in-Err-clause-unstored g c = (c.bring.ensures.logs.2 ∙ c.requires.unstored, c.bring.ensures.logs.3)

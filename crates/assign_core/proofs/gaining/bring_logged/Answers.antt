@@ -2,7 +2,7 @@ use Rattle.std.proofs.Common.{refl, sym, subst, Bool, Result, None}
 use Rattle.std.proofs.lemmas.Result.{err_from_is_err_and}
 use Rattle.value_core.specs.declared.refuse.Refuse.{Refuse}
 use Rattle.tree_core.specs.Relvars.{read_relvars}
-use Rattle.assign_core.specs.NewRows.{joining, HasRoomIf, IsFoundIf}
+use Rattle.assign_core.specs.NewRows.{joining, HasLogRoomIf, IsFoundIf}
 use Rattle.assign_core.proofs.GainedLemmas.{found_base, has_room_for}
 use Rattle.assign_core.proofs.gaining.bring_logged.Goals as goal
 
@@ -22,7 +22,7 @@ pub returns-in_err-come-clause-beside : goal.returns-in_err-come-clause-beside
 returns-in_err-come-clause-beside g c =
     let s = read_relvars c.args.relvars.now in
     let p = err_from_is_err_and c.from_residual.result c.from_residual.ensures.1 in
-    subst (λ (r : Result Bool Refuse). HasRoomIf (joining None) r s c.args.target.now c.args.rows) (sym p.1)
+    subst (λ (r : Result Bool Refuse). HasLogRoomIf (joining None) r s c.args.target.now c.args.rows) (sym p.1)
     (has_room_for s c.args.target.now c.args.rows c.in-Some.at c.in-Some.value.now c.requires.kept c.requires.step c.in-Some.ensures)
 
 pub returns-in_err-gone-clause-brought : goal.returns-in_err-gone-clause-brought
@@ -41,5 +41,5 @@ pub returns-in_err-gone-clause-beside : goal.returns-in_err-gone-clause-beside
 returns-in_err-gone-clause-beside g c =
     let s = read_relvars c.args.relvars.now in
     let p = err_from_is_err_and c.from_residual-in_err-gone.result c.from_residual-in_err-gone.ensures.1 in
-    subst (λ (r : Result Bool Refuse). HasRoomIf (joining None) r s c.args.target.now c.args.rows) (sym p.1)
+    subst (λ (r : Result Bool Refuse). HasLogRoomIf (joining None) r s c.args.target.now c.args.rows) (sym p.1)
     (has_room_for s c.args.target.now c.args.rows c.in-Some.at c.in-Some.value.now c.requires.kept c.requires.step c.in-Some.ensures)

@@ -4,7 +4,7 @@ use Rattle.tree_core.specs.Relvars.{read_entry}
 use Rattle.relvar_logs.specs.Changes.{Changes, changed}
 use Rattle.relvar_logs.proofs.EntryLemmas.{entries_length}
 use Rattle.assign_core.specs.Assignments.{IsRefusedFor}
-use Rattle.assign_core.specs.Logs.{if_room}
+use Rattle.assign_core.specs.Logs.{if_log_room}
 use Rattle.assign_core.proofs.ChangeLemmas.{same_length}
 use Rattle.assign_core.proofs.LogLemmas.{room_full}
 use Rattle.assign_core.proofs.in_place.prepare_values.Goals as goal
@@ -19,6 +19,6 @@ returns-in_err-next-clause-refused g c list meant =
     let es = map read_entry c.args.relvars.now.list.entries in
     let cs = c.args.changes.items in
     let refuse = c.in_err-next.field-0.0 in
-    let told = subst (λ (z : Changes). IsRefusedFor refuse (if_room (changed z es))) c.as_slice.ensures.value c.in_err-next.ensures.refused in
+    let told = subst (λ (z : Changes). IsRefusedFor refuse (if_log_room (changed z es))) c.as_slice.ensures.value c.in_err-next.ensures.refused in
     let p = err_from_is_err_and c.from_residual.result c.from_residual.ensures.1 in
     rw (p.1, p.2) (room_full es (changed cs es) list refuse meant told)

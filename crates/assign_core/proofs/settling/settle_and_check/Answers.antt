@@ -1,12 +1,15 @@
-use Rattle.std.proofs.Common.{◌≡◌, ◌≤◌, ◌+◌, sym, subst, ◌∙◌, Err, None}
+use Rattle.std.proofs.Common.{◌≡◌, ◌≤◌, ◌+◌, [], sym, ap, subst, ◌∙◌, Err, None}
 use Rattle.tree_core.specs.Relvars.{State, read_relvars}
 use Rattle.meaning_core.specs.WellMade.{IsWellMade}
+use Rattle.stored_views.specs.Stored.{has_stored}
+use Rattle.stored_views.proofs.UnstoredLemmas.{unstored}
 use Rattle.assign_core.specs.Breaches.{first_rule_broken}
 use Rattle.assign_core.specs.Changes.{Tells}
 use Rattle.assign_core.specs.Costs.{rules_cost}
 use Rattle.assign_core.specs.Exchanges.{with_ready}
 use Rattle.assign_core.specs.Leanings.{DoOthersHold}
-use Rattle.assign_core.proofs.RenewedLemmas.{settled_made}
+use Rattle.assign_core.proofs.KindLemmas.{kinds_alike}
+use Rattle.assign_core.proofs.RenewedLemmas.{bare_exchanged, settled_made}
 use Rattle.assign_core.proofs.StateLemmas.{changed_state, state_back, values_left}
 use Rattle.assign_core.proofs.settling.settle_and_check.Goals as goal
 
@@ -17,6 +20,15 @@ check_rules-requires-clause-well_made g c =
     (c.in_ok-exchange.ensures.done ∙ c.in_ok-changes.ensures.ready) c.exchange.ensures.ordinals c.exchange.ensures.rules c.exchange.ensures.accepted in
     let s = read_relvars c.args.relvars.now in
     subst IsWellMade (sym made) (settled_made s c.args.ready c.requires.kept c.requires.ready)
+
+pub check_rules-requires-clause-stored : goal.check_rules-requires-clause-stored
+check_rules-requires-clause-stored g c =
+    let s = read_relvars c.args.relvars.now in
+    let made : read_relvars c.exchange.new.relvars ≡ record s { relvars = with_ready c.args.ready s.relvars } =
+    changed_state c.args.relvars.now c.exchange.new.relvars (with_ready c.args.ready s.relvars)
+    (c.in_ok-exchange.ensures.done ∙ c.in_ok-changes.ensures.ready) c.exchange.ensures.ordinals c.exchange.ensures.rules c.exchange.ensures.accepted in
+    let kinds = kinds_alike (with_ready c.args.ready s.relvars) s.relvars (bare_exchanged c.args.ready.changes.items s.relvars c.requires.ready) in
+    unstored (read_relvars c.exchange.new.relvars).relvars [] (ap (λ (t : State). has_stored t.relvars) made ∙ (kinds ∙ c.requires.unstored))
 
 pub check_rules-requires-clause-others : goal.check_rules-requires-clause-others
 check_rules-requires-clause-others g c =

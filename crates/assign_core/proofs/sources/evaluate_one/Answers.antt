@@ -8,6 +8,7 @@ use Rattle.std.specs.Prelude.{slice_set}
 use Rattle.relvar_logs.proofs.EntryLemmas.{entries_length}
 use Rattle.assign_core.proofs.ChangeLemmas.{same_length, is_change, put_change, put_given}
 use Rattle.assign_core.proofs.NameLemmas.{relvars_differ}
+use Rattle.assign_core.proofs.RenewedNames.{more_renewed}
 use Rattle.assign_core.proofs.SourceLemmas.{source_heading, one_given}
 use Rattle.assign_core.proofs.sources.evaluate_one.Goals as goal
 
@@ -47,3 +48,8 @@ returns-clause-value g c =
     let different = relvars_differ (read_relvars c.args.relvars.now) c.requires.well_made in
     one_given es (changed cs es) after a c.in_ok-value.value (told g c)
     (put_given es cs a.target c.place-at.result c.place-at.ensures.first.0 c.in_ok-value.value different c.requires.changes c.place-at.ensures.first.1)
+
+pub returns-clause-renewed : goal.returns-clause-renewed
+returns-clause-renewed g c done renewed =
+    let es = map read_entry c.args.relvars.now.list.entries in
+    more_renewed es c.args.changes.now.items c.args.assignment.now.target c.place-at.result c.place-at.ensures.first.0 c.in_ok-value.value done c.requires.changes c.place-at.ensures.first.1 renewed

@@ -1,4 +1,5 @@
-use Rattle.std.proofs.Common.{◌≤◌, ◌+◌, length, map, arith}
+use Rattle.std.proofs.Common.{◌≡◌, ◌≤◌, ◌+◌, ℕ, suc, List, Option, length, map, drop, sym, ap, ◌∙◌, subst, arith}
+use Rattle.value_core.specs.Values.{Relation}
 use Rattle.tree_core.specs.Relvars.{read_entry}
 use Rattle.relvar_logs.specs.Changes.{changed}
 use Rattle.relvar_logs.proofs.EntryLemmas.{entries_length}
@@ -6,31 +7,42 @@ use Rattle.stored_views.specs.Moves.{moves_among}
 use Rattle.stored_views.specs.NextRows.{renewed}
 use Rattle.stored_views.proofs.KindLemmas.{stored-changed}
 use Rattle.stored_views.proofs.MoveLemmas.{next_cost}
-use Rattle.stored_views.proofs.NextLemmas.{next_more, next_all, next_places}
+use Rattle.stored_views.proofs.NextLemmas.{AreNextOf, next_more, next_all, next_places, one_longer}
 use Rattle.stored_views.proofs.next.next_rows.Goals as goal
 
 pub returns-in_err-next-clause-cost : goal.returns-in_err-next-clause-cost
 returns-in_err-next-clause-cost g c =
     let es = map read_entry c.args.relvars.now.list.entries in
     let all = changed c.args.changes.now es in
-    (next_cost es all es c.loop-at.at c.loop-at.steps c.next_at.new.steps (c.args.steps.now + moves_among es all es) c.next_at.ensures.cost c.loop-at.invariant.cost).0
-
-pub returns-in_err-push-clause-cost : goal.returns-in_err-push-clause-cost
-returns-in_err-push-clause-cost g c =
-    let es = map read_entry c.args.relvars.now.list.entries in
-    let all = changed c.args.changes.now es in
-    (next_cost es all es c.loop-at.at c.loop-at.steps c.next_at.new.steps (c.args.steps.now + moves_among es all es) c.next_at.ensures.cost c.loop-at.invariant.cost).0
+    let at = c.loop-at.at in
+    let next = next_cost es all es at c.loop-at.steps c.next_at.new.steps (c.args.steps.now + moves_among es all es) c.next_at.ensures.cost c.loop-at.invariant.cost in
+    omega (arith, next)
 
 pub loop-at-preserved : goal.loop-at-preserved
 loop-at-preserved g c =
     let es = map read_entry c.args.relvars.now.list.entries in
     let all = changed c.args.changes.now es in
+    let rows = c.args.stored.now in
+    let at = c.loop-at.at in
+    let one : suc at ≡ at + 1 = omega arith in
     let len = c.len-at-end.ensures.len in
-    let below : c.loop-at.at + 1 ≤ length c.args.relvars.now.list.entries = omega (arith, len) in
-    let cost = next_cost es all es c.loop-at.at c.loop-at.steps c.next_at.new.steps (c.args.steps.now + moves_among es all es) c.next_at.ensures.cost c.loop-at.invariant.cost in
-    let more = next_more all c.args.stored.now c.loop-at.list.items c.push.new.self.items es c.loop-at.at c.in_ok-next.next c.in_ok-push.ensures.items c.loop-at.invariant.many c.loop-at.invariant.next
-    c.in_ok-next.ensures.next in
-    record { next = more.0; many = more.1; within = below; cost = cost.1 }
+    let below : at + 1 ≤ length c.args.relvars.now.list.entries = omega (arith, len) in
+    let next = next_cost es all es at c.loop-at.steps c.next_at.new.steps (c.args.steps.now + moves_among es all es) c.next_at.ensures.cost c.loop-at.invariant.cost in
+    record {
+      next = subst (λ (l : List (Option Relation)). AreNextOf all rows l es) (sym c.in_ok-push.ensures.items)
+          (next_more all rows c.loop-at.list.items es at c.in_ok-next.next c.loop-at.invariant.many c.loop-at.invariant.next c.in_ok-next.ensures.next);
+      many = ap length c.in_ok-push.ensures.items ∙ (one_longer c.loop-at.list.items c.in_ok-next.next ∙ ap (λ (k : ℕ). k + 1) c.loop-at.invariant.many);
+      within = below;
+      cost = subst (λ (k : ℕ). c.next_at.new.steps + moves_among es all (drop k es) ≤ c.args.steps.now + moves_among es all es) one next;
+    }
+
+pub returns-in_err-push-clause-cost : goal.returns-in_err-push-clause-cost
+returns-in_err-push-clause-cost g c =
+    let es = map read_entry c.args.relvars.now.list.entries in
+    let all = changed c.args.changes.now es in
+    let at = c.loop-at.at in
+    let next = next_cost es all es at c.loop-at.steps c.next_at.new.steps (c.args.steps.now + moves_among es all es) c.next_at.ensures.cost c.loop-at.invariant.cost in
+    omega (arith, next)
 
 pub returns-clause-stored : goal.returns-clause-stored
 returns-clause-stored g c =

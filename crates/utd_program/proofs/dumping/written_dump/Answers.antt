@@ -19,7 +19,7 @@ returns-in-Err-clause-ends g c =
     (λ e. dump_logless texts (state_of c.args.database.now) c.requires ∙ ap (script_of texts) (sym c.relvars.ensures.state) ∙ c.in-Err.ensures.too_long e) c.status_without_dump.ensures.long c.status_without_dump.ensures.memory
 
 pub returns-in-Ok-clause-sound : goal.returns-in-Ok-clause-sound
-returns-in-Ok-clause-sound g c at_end = sound c.args.database.now c.relvars.result.now c.relvars.ensures.state c.relvars.ensures.kept c.in-Ok.ensures.relations
+returns-in-Ok-clause-sound g c at_end = sound c.args.database.now c.relvars.result.now c.relvars.ensures.state c.relvars.ensures.kept c.in-Ok.ensures.relations c.relvars.ensures.beside
 
 pub returns-in-Err-clause-sound : goal.returns-in-Err-clause-sound
 returns-in-Err-clause-sound g c at_end = absurd (no_dump_no_end c.in-Err.refuse c.status_without_dump.result c.status_without_dump.ensures.long c.status_without_dump.ensures.memory at_end)

@@ -26,4 +26,4 @@ returns-clause-cost g c =
     subst (λ (r : Relvars). c.assign.new.steps ≤ c.args.steps.now + cost_of_assignments (read_relvars r) (map read_assignment c.args.list.now)) c.self.view_is c.assign.ensures.cost
 
 pub invariant_of-self : goal.invariant_of-self
-invariant_of-self g c = (c.assign.ensures.kept, c.assign.ensures.hashed, c.assign.ensures.step)
+invariant_of-self g c = (c.assign.ensures.kept, c.assign.ensures.hashed, c.assign.ensures.step, c.assign.ensures.stored)

@@ -8,6 +8,7 @@ use Rattle.assign_core.specs.Assignments.{constrained, IsDone}
 use Rattle.assign_core.specs.Hashed.{AreHashed}
 use Rattle.assign_core.proofs.RuleLemmas.{added_kept}
 use Rattle.assign_core.proofs.StepLemmas.{added_step}
+use Rattle.assign_core.proofs.StoredLemmas.{stored_same}
 use Rattle.assign_core.proofs.database.Database.constrain.Goals as goal
 
 pub add_rule-requires-clause-more : goal.add_rule-requires-clause-more
@@ -27,4 +28,5 @@ invariant_of-self g c =
       added_kept c.add_rule.result s (read_relvars c.add_rule.new.relvars) c.args.name (read_test c.args.test) c.self.invariant.0 made c.add_rule.ensures.done,
       subst (λ (es : Entries). AreHashed c.self.inside.hashed es) same c.self.invariant.1,
       added_step c.add_rule.result s (read_relvars c.add_rule.new.relvars) c.args.name (read_test c.args.test) c.add_rule.ensures.done c.self.invariant.2,
+      stored_same s (read_relvars c.add_rule.new.relvars) c.self.inside.stored.items (sym same) c.self.invariant.3,
     )

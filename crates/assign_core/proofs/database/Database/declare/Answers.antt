@@ -7,6 +7,7 @@ use Rattle.assign_core.specs.Databases.{declared}
 use Rattle.assign_core.proofs.DeclaredLemmas.{declared_kept}
 use Rattle.assign_core.proofs.NameLemmas.{relvars_differ}
 use Rattle.assign_core.proofs.StepLemmas.{declared_step}
+use Rattle.assign_core.proofs.StoredLemmas.{declared_stored}
 use Rattle.assign_core.proofs.database.Database.declare.Goals as goal
 
 pub append_all-requires : goal.append_all-requires
@@ -22,4 +23,5 @@ invariant_of-self c =
       declared_kept s (read_relvars c.append_all.new.relvars) list c.in-Ok.ensures.ok c.self.invariant.0 made,
       c.no_hashes.ensures.hashed _,
       declared_step s (read_relvars c.append_all.new.relvars) list c.in-Ok.ensures.ok c.self.invariant.0.well_made c.self.invariant.2,
+      declared_stored s (read_relvars c.append_all.new.relvars) c.args.list.items c.self.inside.stored.items c.self.invariant.0.well_made c.in-Ok.ensures.ok c.self.invariant.3,
     )

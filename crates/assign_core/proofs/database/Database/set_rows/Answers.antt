@@ -3,6 +3,7 @@ use Rattle.tree_core.specs.declared.relvar.Relvars.{Relvars}
 use Rattle.tree_core.specs.Relvars.{State, read_relvars}
 use Rattle.assign_core.specs.Logs.{counted_if, is_brought}
 use Rattle.assign_core.specs.NewRows.{replacing, HasRoomIf, IsFoundIf, IsPaidFor, IsToldOf, StaysUnless}
+use Rattle.assign_core.proofs.UnstoredLemmas.{brought_stored}
 use Rattle.assign_core.proofs.database.Database.set_rows.Goals as goal
 
 pub returns-clause-brought : goal.returns-clause-brought
@@ -23,4 +24,9 @@ pub returns-clause-cost : goal.returns-clause-cost
 returns-clause-cost g c = subst (λ (r : Relvars). IsPaidFor replacing (read_relvars r) c.args.target.now c.args.rows c.args.steps.now c.bring_counted.new.steps) c.self.view_is c.bring_counted.ensures.cost
 
 pub invariant_of-self : goal.invariant_of-self
-invariant_of-self g c = (c.bring_counted.ensures.kept, c.bring_counted.ensures.hashed, c.bring_counted.ensures.step)
+invariant_of-self g c = (
+  c.bring_counted.ensures.kept,
+  c.bring_counted.ensures.hashed,
+  c.bring_counted.ensures.step,
+  brought_stored (read_relvars c.self.inside.relvars) (read_relvars c.bring_counted.new.relvars) c.self.inside.stored.items c.self.invariant.3 c.bring_counted.ensures.kept c.bring_counted.ensures.stored,
+)

@@ -1,4 +1,4 @@
-use Rattle.std.proofs.Common.{◌≡◌, sym, ap, subst}
+use Rattle.std.proofs.Common.{◌≡◌, refl, sym, ap, subst}
 use Rattle.std.specs.List.{IsDistinct}
 use Rattle.std.specs.Str.{bytes_eq}
 use Rattle.tree_core.specs.declared.relvar.Relvars.{Relvars}
@@ -8,6 +8,7 @@ use Rattle.assign_core.specs.Databases.{IsKept}
 use Rattle.assign_core.proofs.NameLemmas.{rules_differ, names_of_rules}
 use Rattle.assign_core.proofs.RuleLemmas.{without_rule_kept}
 use Rattle.assign_core.proofs.StateLemmas.{rule_removed}
+use Rattle.assign_core.proofs.StoredLemmas.{stored_same}
 use Rattle.assign_core.proofs.database.Database.unconstrain.Goals as goal
 
 left_is : (c : goal.After-drop) → read_relvars (record { list = c.self.inside.relvars.list; ordinals = c.self.inside.relvars.ordinals; rules = c.shift_remove.new.self; accepted = c.self.inside.relvars.accepted })
@@ -25,4 +26,4 @@ returns-clause-state c =
 
 pub invariant_of-self : goal.invariant_of-self
 invariant_of-self c =
-    (subst IsKept (sym (left_is c)) (without_rule_kept (read_relvars c.self.inside.relvars) c.args.name.now c.self.invariant.0), c.self.invariant.1, c.self.invariant.2)
+    (subst IsKept (sym (left_is c)) (without_rule_kept (read_relvars c.self.inside.relvars) c.args.name.now c.self.invariant.0), c.self.invariant.1, c.self.invariant.2, stored_same (read_relvars c.self.inside.relvars) _ c.self.inside.stored.items refl c.self.invariant.3)
