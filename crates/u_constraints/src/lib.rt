@@ -28,6 +28,7 @@ pub use across::holds_across;
 pub use beginning::with_prefix;
 pub use constraints::holds;
 pub use growth::{Change, holds_beside, holds_with};
+pub use near::rows_with_keys;
 pub use positions::are_all;
 pub use search::{touched_by, touched_with};
 pub use tuning::ROWS_PASSED_FOR_ONE_SOUGHT;

@@ -38,7 +38,7 @@ fn rows_by_pass(
 
 /// The rows of many whose values at the positions are one of the keys, which are in order. Few keys at the first positions are sought;
 /// else all rows are passed over, and a row is looked at alone where some key has its hash.
-pub(crate) fn rows_with_keys(
+pub fn rows_with_keys(
     alloc: Global,
     many: &Relation,
     positions: &[usize],
