@@ -425,8 +425,7 @@ stays_logs s now e = (ap (λ (t : State). has_log t.relvars) e, ap (λ (t : Stat
 -- logs and kinds of views stay, and the number of accepted statements
 pub settled_logs : (result : Result (Unit {0}) Refuse) (s now : State) (r : Ready) → IsReady r s.relvars → IsSettled result s now (with_ready r s.relvars) → KeepsLogs s now
 settled_logs (Ok done) s now r ready told =
-    let bare = bare_exchanged r.changes.items s.relvars ready in
-    (
+    let bare = bare_exchanged r.changes.items s.relvars ready in (
       ap (λ (t : State). has_log t.relvars) told.1 ∙ logs_alike (with_ready r s.relvars) s.relvars bare,
       ap (λ (t : State). t.accepted) told.1,
       ap (λ (t : State). has_stored t.relvars) told.1 ∙ kinds_alike (with_ready r s.relvars) s.relvars bare,

@@ -14,11 +14,7 @@ use value_core::{Name, Relation};
 
 /// Takes out the relvar or view of this name, and its stored rows; with the view of a history, which is the first to go, its two relvars. It
 /// takes no memory.
-pub(crate) fn drop_group(
-    relvars: &mut Relvars,
-    stored: &mut Vec<Option<Relation>>,
-    name: &Name,
-)
+pub(crate) fn drop_group(relvars: &mut Relvars, stored: &mut Vec<Option<Relation>>, name: &Name)
     requires { IsDistinct bytes_eq (keys relvars.old.list) }
     ensures state { read_relvars relvars.new ≡ without_group name.now (read_relvars relvars.old) }
     ensures stored { stored.new.items ≡ rows_without (group (read_relvars relvars.old).relvars name.now) (read_relvars relvars.old).relvars stored.old.items }

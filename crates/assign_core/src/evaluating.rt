@@ -114,7 +114,14 @@ fn evaluate_insertion<'a, L: Ledger>(
     ensures cost { steps.new ≤ steps.old + sources_cost (read_relvars relvars.now).relvars (read_relvars relvars.now).relvars (read_assignment insertion.entry.assignment.now ∷ []) }
 {
     let none = none_yet(alloc, relvars)?;
-    let (at, value, operand) = evaluate_operand(alloc, insertion, relvars, stored, none.as_slice(), steps)?;
+    let (at, value, operand) = evaluate_operand(
+        alloc,
+        insertion,
+        relvars,
+        stored,
+        none.as_slice(),
+        steps,
+    )?;
     let target = Target {
         relvars,
         name: &insertion.assignment.target,

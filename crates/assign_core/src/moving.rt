@@ -134,7 +134,15 @@ fn perform_moving<L: Ledger>(
     } = moving;
     let changes = values(alloc, relvars, ready)?;
     let mut moved = Moved { changes, rows };
-    move_and_check(alloc, relvars, hashed, stored, &mut moved, told.as_slice(), steps)?;
+    move_and_check(
+        alloc,
+        relvars,
+        hashed,
+        stored,
+        &mut moved,
+        told.as_slice(),
+        steps,
+    )?;
     count(relvars, &mut logs);
     Ok(())
 }

@@ -34,8 +34,7 @@ count_idle-requires-clause-step g c =
 pub returns-clause-done : goal.returns-clause-done
 returns-clause-done g c =
     let s = read_relvars c.args.relvars.now in
-    let t = read_tree c.args.tree in
-    (
+    let t = read_tree c.args.tree in (
       with_stored s c.args.name t,
       stored_done s c.args.name t c.in_ok-rows.rows c.requires.kept.well_made c.requires.typed c.in_ok-rows.ensures.rows c.requires.stored.room c.in_ok-rows.ensures.room,
       c.count_idle.ensures.counted ∙ ap counted c.in_ok-append_view.ensures.ok,
