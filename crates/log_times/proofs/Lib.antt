@@ -9,3 +9,4 @@ pub mod StampLemmas
 pub mod StatementLemmas
 pub mod StretchLemmas
 pub mod KeptLemmas
+pub mod FrontLemmas

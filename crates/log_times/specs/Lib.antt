@@ -3,3 +3,4 @@ pub mod Turns
 pub mod Kept
 pub mod Answers
 pub mod Told
+pub mod Fronts

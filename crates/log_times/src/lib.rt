@@ -2,6 +2,7 @@
 #![tactic(auto)]
 
 mod closing;
+mod fronts;
 mod headings;
 mod lists;
 mod log;

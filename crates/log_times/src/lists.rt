@@ -6,6 +6,7 @@ ghost use Rattle.value_core.specs.Values.{Row as PlainRow, row_cmp};
 ghost use Rattle.log_times.specs.Logs.{closed, HasStatements, IsStoredRow};
 ghost use Rattle.log_times.specs.Turns.{begun, goes, lost};
 
+use crate::fronts::split_front;
 use crate::rows::{OPEN_END, closed_row, has_rest, is_standing, stamped};
 use point_core::Memory;
 use relation_core::keep;
@@ -55,8 +56,26 @@ fn goes(row: &Row, side: usize, gone: &[Row]) -> bool
     is_standing(row, side) && has_rest(gone, row, side)
 }
 
-/// The stored rows of those that go, which are in order: where none go, no row is looked at, and else those that stand are sought among
-/// them.
+/// Adds the stored rows of those that go, which are in order.
+fn add_lost(
+    alloc: Global,
+    list: &mut Vec<Row>,
+    rows: &[Row],
+    side: usize,
+    gone: &[Row],
+) -> Result<(), Memory>
+    requires intervals { All (HasStatements side) rows.now }
+    requires sorted { IsStrictlySortedBy row_cmp gone.now }
+    ensures { OnOk result (list.new.items ≡ list.old.items ++ lost side gone.now rows.now) }
+{
+    for row in rows {
+        keep(alloc, list, row, goes(row, side, gone))?;
+    }
+    Ok(())
+}
+
+/// The stored rows of those that go, where both are in order. Only stored rows are looked at that have, in front of the place, the values
+/// of one that goes: those with the same values there stand together, among the stored rows and among those that go.
 pub(crate) fn lost_rows(
     alloc: Global,
     rows: &[Row],
@@ -64,15 +83,19 @@ pub(crate) fn lost_rows(
     gone: &[Row],
 ) -> Result<Vec<Row>, Memory>
     requires intervals { All (HasStatements side) rows.now }
+    requires rows { IsStrictlySortedBy row_cmp rows.now }
     requires sorted { IsStrictlySortedBy row_cmp gone.now }
     ensures { IfOk result (λ list. list.items ≡ lost side gone.now rows.now) }
 {
-    if gone.is_empty() {
-        return Ok(Vec::new(alloc));
-    }
     let mut list = Vec::new(alloc);
-    for row in rows {
-        keep(alloc, &mut list, row, goes(row, side, gone))?;
+    let mut rest = rows;
+    let mut left = gone;
+    'front: while let Some((first, _)) = left.split_first() {
+        let (run, after) = split_front(rest, first, side);
+        let (same, behind) = split_front(left, first, side);
+        add_lost(alloc, &mut list, run, side, same)?;
+        rest = after;
+        left = behind;
     }
     Ok(list)
 }
