@@ -1,4 +1,5 @@
 mod AnswerLemmas
+mod DifferingLemmas
 mod FilterLemmas
 mod GroupLemmas
 mod HeadingLemmas
@@ -7,6 +8,7 @@ mod LawLemmas
 pub mod MovedLemmas
 pub mod NameLemmas
 mod NarrowLemmas
+mod PartLemmas
 mod PartedLemmas
 mod SortedLemmas
 pub mod TouchedLemmas

@@ -1,5 +1,5 @@
 -- What is gathered group by group is what the view gains and loses.
---     small_refused      where a group has too many rows, the view has too
+--     small_refused, group_refused      where a group has too many rows, the view has too
 --     less_gone      not more rows go than are there
 --     all_moved      the sum is what the view gains and loses
 --     less, whole      of touched groups
@@ -17,8 +17,8 @@ use Rattle.relation_core.proofs.FilterLemmas.{length-filter_at_most}
 use Rattle.kept_views.specs.declared.group_moves.Moved.{Moved}
 use Rattle.kept_views.specs.declared.moving.Moves.{Moves}
 use Rattle.kept_views.specs.declared.rule.KeptRule.{KeptRule}
-use Rattle.kept_views.specs.Kept.{heading_or_none, kept_rows, view_key, of_key, Fits, IsMoved}
-use Rattle.kept_views.specs.Touched.{AreRelations, HaveOneHeading, touched_keys, AreMoves, IsSummed, IsOver}
+use Rattle.kept_views.specs.Kept.{heading_or_none, kept_rows, view_key, has_key, of_key, Fits, IsMoved}
+use Rattle.kept_views.specs.Touched.{AreRelations, HaveOneHeading, touched_keys, AreMoves, IsSummed, IsOver, IsRefusedGroup}
 use Rattle.kept_views.proofs.TouchedLemmas.{kept_up, settled, gathered, counted, renewed}
 
 -- ---- too many rows
@@ -26,6 +26,9 @@ use Rattle.kept_views.proofs.TouchedLemmas.{kept_up, settled, gathered, counted,
 pub small_refused : (p : Row → Bool) (rows : List Row) (e : RowsRefuse) → IsRefusal (filter p rows) e → IsRefusal rows e
 small_refused p rows TooMany h = let less = length-filter_at_most p rows in omega (arith, h, less)
 small_refused p rows Memory h = tt
+
+pub group_refused : (places : List ℕ) (keys rows : List Row) (e : RowsRefuse) → IsRefusedGroup places keys rows e → IsRefusal rows e
+group_refused places keys rows e h = small_refused (has_key places h.key) rows e h.refused
 
 -- ---- the sum
 

@@ -4,8 +4,8 @@
 --     settled      the groups of other keys stay
 --     gathered      what the groups of the touched keys gain is what the view gains
 --     counted, renewed      how many rows there are then, and which
-use Rattle.std.proofs.Common.{◌≡◌, ◌⊎◌, inl, inr, ℕ, ◌+◌, Bool, true, false, not, List, [], ◌∷◌, ◌++◌, map, length, Option, None, Some, refl, sym, ap, ap₂, ◌∙◌, subst, arith, cond}
-use Rattle.std.specs.List.{filter, list_any}
+use Rattle.std.proofs.Common.{◌≡◌, inl, inr, ℕ, ◌+◌, true, false, not, List, [], ◌∷◌, ◌++◌, map, length, Option, None, Some, refl, sym, ap, ap₂, ◌∙◌, subst, arith, cond}
+use Rattle.std.specs.List.{list_any}
 use Rattle.std.proofs.lemmas.Bool.{cases_Bool, true≢false}
 use Rattle.base_core.specs.Sets.{has}
 use Rattle.base_core.proofs.MemberLemmas.{In-append, In-map, In-flat_map, In-filter, has-In, eq_by_cmp-≡}
@@ -31,7 +31,7 @@ use Rattle.kept_views.proofs.GroupLemmas.{IsRelationOrNone, law}
 -- ---- members
 
 -- what cannot be missing is there
-there_unless : (rows : List Row) (x : Row) → ((In x rows → ⊥) → ⊥) → In x rows
+pub there_unless : (rows : List Row) (x : Row) → ((In x rows → ⊥) → ⊥) → In x rows
 there_unless rows x may =
     let w = has-In row_cmp row_total row_separates rows x in
     elim (cases_Bool (has row_cmp rows x)) [

@@ -5,7 +5,7 @@
 --     IsParted      the rows of a group of the view are those that the groups of its operands give
 --     Fits      which operands a rule has
 --     IsMoved      what a view gains and loses
-use Rattle.std.specs.Prelude.{◌≡◌, ◌≤◌, ◌<◌, ℕ, Bool, not, List, [], map, filter, length, Option, Some, None, IsTrue}
+use Rattle.std.specs.Prelude.{◌≡◌, ◌≤◌, ◌<◌, ℕ, Bool, not, List, map, filter, length, Option, Some, None, IsTrue}
 use Rattle.std.specs.List.{All, list_any}
 use Rattle.std.specs.Ordering.{eq_by_cmp, nat_cmp}
 use Rattle.std.specs.Str.{bytes_eq}

@@ -3,14 +3,16 @@
 --     AreRelations, HaveOneHeading      what is known of operands, and of those before and after
 --     touched_keys      the keys of the groups that are touched
 --     gained      what some groups gain, group after group
---     AreMoves, IsAdded, IsSummed, IsOver      what is gathered group by group, and its sum
+--     AreMoves, IsAdded, IsSummed, IsOver, IsRefusedGroup      what is gathered group by group, and its sum
 --     group_cost, groups_cost      the most steps
 use Rattle.std.specs.Prelude.{◌≡◌, ◌≤◌, ◌<◌, ◌+◌, ℕ, List, ◌++◌, flat_map, length, sum_by, option_map, Option, Some, None, IsTrue}
+use Rattle.base_core.specs.Sets.{has}
 use Rattle.cell_core.specs.Costs.{bound}
 use Rattle.value_core.specs.Relations.{all_fit}
-use Rattle.value_core.specs.Values.{Row, Heading, Relation, IsRelation, rows_of, most_rows}
+use Rattle.value_core.specs.Values.{Row, Heading, Relation, IsRelation, row_cmp, rows_of, most_rows}
 use Rattle.value_core.specs.declared.refuse.RowsRefuse.{RowsRefuse}
 use Rattle.value_core.specs.declared.refuse.RowsRefuse.TheVariants.{TooMany, Memory}
+use Rattle.relation_core.specs.Answers.{IsRefusal}
 use Rattle.relation_core.specs.Operators.{subtracted}
 use Rattle.relation_core.specs.Parts.{projected}
 use Rattle.kept_views.specs.Kept.{heading_or_none, rows_or_none, left_key, right_key, of_key}
@@ -83,6 +85,12 @@ pub record IsSummed (heading : Heading) (old arrivals departures : List Row) (mo
 abbrev pub IsOver : List Row → List Row → List Row → RowsRefuse → Type 0
 IsOver old arrivals departures TooMany = most_rows + length (rows_of departures) < length old + length (rows_of arrivals)
 IsOver old arrivals departures Memory = Unit {0}
+
+-- a group of one of the keys is refused
+pub record IsRefusedGroup (places : List ℕ) (keys rows : List Row) (e : RowsRefuse) : Type 0 where
+  pub key : Row
+  pub among : IsTrue (has row_cmp keys key)
+  pub refused : IsRefusal (of_key places key rows) e
 
 -- ---- steps
 

@@ -7,7 +7,7 @@ ghost use Rattle.relation_core.specs.Answers.{IsRefusal};
 ghost use Rattle.relation_core.specs.Growth.{IsSelection};
 ghost use Rattle.kept_views.specs.Kept.{Fits, IsMoved, heading_or_none, kept_heading, kept_rows, of_key, right_key, rows_or_none, view_key};
 ghost use Rattle.kept_views.specs.Sorted.{AreAllSorted, AreSorted, IsGroup, rows_behind, with_rows};
-ghost use Rattle.kept_views.specs.Touched.{AreMoves, AreRelations, HaveOneHeading, IsAdded, IsOver, IsSummed, group_cost, groups_cost, left_of, right_of, touched_keys};
+ghost use Rattle.kept_views.specs.Touched.{AreMoves, AreRelations, HaveOneHeading, IsAdded, IsOver, IsRefusedGroup, IsSummed, group_cost, groups_cost, left_of, right_of, touched_keys};
 
 use crate::group_moves::{Moved, group_moved, view_places};
 use crate::rule::{KeptRule, Operands};
@@ -41,8 +41,8 @@ pub(crate) struct Moves {
     pub(crate) gone: Vec<Row>,
 }
 
-// Reads the operands, which tells that their rows are sets.
-fn read(operands: Operands<'_>)
+/// Reads the operands, which tells that their rows are sets.
+pub(crate) fn read(operands: Operands<'_>)
     ensures { AreRelations (left_of operands.entry) (right_of operands.entry) }
 {
     let _left = operands.left.heading();
@@ -87,8 +87,8 @@ fn sorted_right(
     }
 }
 
-// The touched rows of the view and of both operands, by one pass over each.
-fn sorted_all(
+/// The touched rows of the view and of both operands, by one pass over each.
+pub(crate) fn sorted_all(
     alloc: Global,
     rule: &KeptRule,
     view: &Relation,
@@ -186,7 +186,7 @@ fn groups_moved<L: Ledger>(
     requires sorted { AreAllSorted rule.now keys.now groups.view.now.rows (left_of groups.after) (right_of groups.after) groups.sorted.now }
     ensures moves { let places = view_key rule.now.op rule.now.left (left_of groups.entry.after).heading (heading_or_none (right_of groups.entry.after)) in
         let rows = kept_rows rule.now (left_of groups.entry.after) (right_of groups.entry.after) in
-        MatchResult result (AreMoves groups.entry.view.now.heading places keys.now groups.entry.view.now.rows rows) (IsRefusal rows) }
+        MatchResult result (AreMoves groups.entry.view.now.heading places keys.now groups.entry.view.now.rows rows) (IsRefusedGroup places keys.now rows) }
     ensures cost { steps.new ≤ steps.old + groups_cost rule.now (left_of groups.entry.after) (right_of groups.entry.after) keys.now }
 {
     let mut moves = Moves {
@@ -199,8 +199,34 @@ fn groups_moved<L: Ledger>(
     Ok(moves)
 }
 
-// The rows that come and go as relations, if those are few that are there then.
-fn summed(alloc: Global, view: &Relation, moves: Moves) -> Result<Moved, RowsRefuse>
+/// The same, of the view, of its operands, and of their touched rows.
+pub(crate) fn view_moved<L: Ledger>(
+    alloc: Global,
+    rule: &KeptRule,
+    keys: &[Row],
+    view: &Relation,
+    after: Operands<'_>,
+    sorted: &SortedRows,
+    steps: &mut Steps<L>,
+) -> Result<Moves, RowsRefuse>
+    requires fits { Fits rule.now (left_of after) (right_of after) }
+    requires heading { view.now.heading ≡ kept_heading rule.now (left_of after) (right_of after) }
+    requires sorted { AreAllSorted rule.now keys.now view.now.rows (left_of after) (right_of after) sorted.now }
+    ensures moves { let places = view_key rule.now.op rule.now.left (left_of after.entry).heading (heading_or_none (right_of after.entry)) in
+        let rows = kept_rows rule.now (left_of after.entry) (right_of after.entry) in
+        MatchResult result (AreMoves view.now.heading places keys.now view.now.rows rows) (IsRefusedGroup places keys.now rows) }
+    ensures cost { steps.new ≤ steps.old + groups_cost rule.now (left_of after.entry) (right_of after.entry) keys.now }
+{
+    let groups = Groups {
+        view,
+        after,
+        sorted,
+    };
+    groups_moved(alloc, rule, keys, groups, steps)
+}
+
+/// The rows that come and go as relations, if those are few that are there then.
+pub(crate) fn summed(alloc: Global, view: &Relation, moves: Moves) -> Result<Moved, RowsRefuse>
     requires come { IsTrue (all_fit view.now.heading moves.come.items) }
     requires gone { IsTrue (all_fit view.now.heading moves.gone.items) }
     requires less { length (rows_of moves.gone.items) ≤ length view.now.rows }

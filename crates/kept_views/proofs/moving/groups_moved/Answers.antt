@@ -6,19 +6,19 @@ use Rattle.base_core.proofs.MemberLemmas.{has-In}
 use Rattle.base_core.proofs.SetLemmas.{In}
 use Rattle.value_core.specs.Order.{row_total, row_separates}
 use Rattle.value_core.specs.Values.{Row, row_cmp}
-use Rattle.kept_views.specs.Kept.{heading_or_none, kept_rows, view_key, has_key}
 use Rattle.kept_views.specs.Touched.{group_cost, left_of, right_of}
-use Rattle.kept_views.proofs.MovedLemmas.{small_refused}
 use Rattle.kept_views.proofs.NarrowLemmas.{group_of_all}
 use Rattle.kept_views.proofs.moving.groups_moved.Goals as goal
 
 pub returns-in_err-add_group-clause-moves : goal.returns-in_err-add_group-clause-moves
 returns-in_err-add_group-clause-moves g c =
-    let rule = c.args.rule.now in
-    let left = left_of c.args.groups.after in
-    let right = right_of c.args.groups.after in
+    let keys = c.args.keys.now in
+    let i = c.loop-key.key-index in
+    let within : i < length keys = omega arith in
+    let key : Row = c.key-item.result in
+    let there : In key keys = subst (λ (k : Row). In k keys) (sym c.key-item.is) (In-get_or keys i key within) in
     let p = err_from_is_err_and c.from_residual.result c.from_residual.ensures.1 in
-    rw (p.1, p.2) (small_refused (has_key (view_key rule.op rule.left left.heading (heading_or_none right)) c.key-item.result) (kept_rows rule left right) c.in_err-add_group.field-0.0 c.in_err-add_group.ensures.added)
+    rw (p.1, p.2) (record { key = key; among = (has-In row_cmp row_total row_separates keys key).1 there; refused = c.in_err-add_group.ensures.added })
 
 pub returns-in_err-add_group-clause-cost : goal.returns-in_err-add_group-clause-cost
 returns-in_err-add_group-clause-cost g c =
