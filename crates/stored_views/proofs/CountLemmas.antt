@@ -76,7 +76,7 @@ any_instead all (view t (of_history names)) o h = tt
 any_instead all (view t stored) o h = absurd h
 any_instead all (log of side last value) o h = tt
 
-bare_there : (all es : Entries) (i : ℕ) (o : Option Relation) → HaveTheirRows all es [] → i < length es → IsSoAt i (λ r. HasItsRows all r o) es
+pub bare_there : (all es : Entries) (i : ℕ) (o : Option Relation) → HaveTheirRows all es [] → i < length es → IsSoAt i (λ r. HasItsRows all r o) es
 bare_there all [] i o h l = absurd (omega (arith, l))
 bare_there all (e ∷ es) zero o h l = any_instead all e.1 o h.0
 bare_there all (e ∷ es) (suc i) o h l = bare_there all es i o h.1 (omega (arith, l))

@@ -2,6 +2,7 @@ pub mod AlikeLemmas
 pub mod BehindLemmas
 pub mod BesideLemmas
 pub mod CountLemmas
+pub mod DifferenceLemmas
 pub mod ExchangeLemmas
 pub mod FewerLemmas
 pub mod FitLemmas
@@ -16,4 +17,5 @@ pub mod TouchLemmas
 pub mod TurnedLemmas
 pub mod UnstoredLemmas
 pub mod ValueLemmas
+pub mod ViewMoveLemmas
 pub mod WithoutLemmas

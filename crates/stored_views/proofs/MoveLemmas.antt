@@ -145,10 +145,10 @@ module _ (sizes : List ℕ) (headings : Headings) (t : Tree) (typed : IsTypedTre
     pub moved_fits : Fits rule left right
     moved_fits = made_fits all t left right rule same is-rule
 
-    is-meant : meaning_in all t ≡ limited (place_for t) (kept_rows rule left right)
+    pub is-meant : meaning_in all t ≡ limited (place_for t) (kept_rows rule left right)
     is-meant = is-rule.meant ∙ ap (λ (k : KeptRule). limited (place_for t) (kept_rows k left right)) (sym same)
 
-    is-up : Ascends row_cmp (kept_rows rule left right)
+    pub is-up : Ascends row_cmp (kept_rows rule left right)
     is-up = kept_up rule left right (relations left right il ir)
 
     -- the rows that the view had

@@ -98,7 +98,7 @@ not_meant all (e ∷ es) (suc i) h = ap (λ (b : Bool). is_meant_if all (stored_
     none false = refl
 
 -- a stored view that means too many rows, once base relvars have new values
-pub few_put : (cs : Changes) (es : List (Name × Relvar)) (i : ℕ) (k : Name) (r : Relvar) (t : Tree) (result : Result (Option Relation) RowsRefuse) → slice_get es i ≡ Some (k, r) → Some t ≡ stored_tree (read_relvar r)
+pub few_put : {X : Type 0} (cs : Changes) (es : List (Name × Relvar)) (i : ℕ) (k : Name) (r : Relvar) (t : Tree) (result : Result X RowsRefuse) → slice_get es i ≡ Some (k, r) → Some t ≡ stored_tree (read_relvar r)
     → IfErr result (IsUnmade t (meaning_in (changed cs (map read_entry es)) t)) → IfErr result (AreTooMany (changed cs (map read_entry es)))
 few_put cs es i k r t (Ok n) there e h = h
 few_put cs es i k r t (Err Memory) there e h = tt

@@ -3,4 +3,5 @@ pub mod NextRows
 pub mod Operands
 pub mod Rules
 pub mod Stored
+pub mod ViewMoves
 pub mod Without
