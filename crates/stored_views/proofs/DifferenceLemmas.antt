@@ -235,15 +235,15 @@ module _ (cs : Changes) (es : Entries) where
     operand_any (unpack place h commalist t) is = absurd (true≢false (sym is))
     operand_any (using place h commalist t) is = absurd (true≢false (sym is))
 
-    or_none : (b : Bool) → (b || false) ≡ b
-    or_none true = refl
-    or_none false = refl
+    alone_any : (a b : Bool) → a ≡ b → (a || false) ≡ b
+    alone_any true b e = e
+    alone_any false b e = e
 
     part_any : (t : Tree) → IsTrue (is_stored_part t) → (is_some (left_of_part ds es t) || is_some (right_of_part ds es t)) ≡ is_touched cs es t
     part_any (infix_of place h word l r) is =
         let names = and_parts (is_name l) (is_name r) is in
         λ i. operand_any l names.0 i || operand_any r names.1 i
-    part_any (project place h kept t) is = or_none (is_some (operand_difference ds es t)) ∙ operand_any t is
+    part_any (project place h kept t) is = alone_any (is_some (operand_difference ds es t)) (is_touched cs es t) (operand_any t is)
     part_any (named place h name) is = absurd (true≢false (sym is))
     part_any (literal place h tuples) is = absurd (true≢false (sym is))
     part_any (rename place h names t) is = absurd (true≢false (sym is))
@@ -256,7 +256,7 @@ module _ (cs : Changes) (es : Entries) where
 
     both_any : (t : Tree) → IsTrue (is_stored_form t) → (is_some (left_difference ds es t) || is_some (right_difference ds es t)) ≡ is_touched cs es t
     both_any (using place h commalist t) is = part_any t is
-    both_any (pack place h commalist t) is = or_none (is_some (operand_difference ds es t)) ∙ operand_any t is
+    both_any (pack place h commalist t) is = alone_any (is_some (operand_difference ds es t)) (is_touched cs es t) (operand_any t is)
     both_any (named place h name) is = absurd (true≢false (sym is))
     both_any (literal place h tuples) is = absurd (true≢false (sym is))
     both_any (infix_of place h word l r) is = absurd (true≢false (sym is))

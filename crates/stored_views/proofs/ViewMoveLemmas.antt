@@ -34,7 +34,7 @@ use Rattle.kept_views.specs.Kept.{kept_rows, IsMoved}
 use Rattle.kept_views.specs.Touched.{AreRelations}
 use Rattle.kept_views.specs.declared.group_moves.Moved.{Moved}
 use Rattle.kept_views.specs.declared.rule.KeptRule.{KeptRule}
-use Rattle.kept_views.proofs.TouchedLemmas.{counted}
+use Rattle.kept_views.proofs.TouchedLemmas.{counted, there_unless}
 use Rattle.stored_views.specs.Operands.{AreValues}
 use Rattle.stored_views.specs.Rules.{rule_for, place_for, IsUnmade}
 use Rattle.stored_views.specs.Stored.{stored_tree, IsCounted}
@@ -44,15 +44,6 @@ use Rattle.stored_views.proofs.MadeLemmas.{limited_many}
 use Rattle.stored_views.proofs.MoveLemmas.{is-meant, is-up}
 
 -- ---- rows that come and go
-
--- what cannot be missing is there
-there_unless : (rows : List Row) (x : Row) → ((In x rows → ⊥) → ⊥) → In x rows
-there_unless rows x may =
-    let w = has-In row_cmp row_total row_separates rows x in
-    elim (cases_Bool (has row_cmp rows x)) [
-      | inl e ↦ w.0 e
-      | inr e ↦ absurd (may (λ i. true≢false (sym (w.1 i) ∙ e)))
-    ]
 
 pub exchanged_new : (old new : List Row) → Ascends row_cmp new → exchanged old (subtracted old new) (subtracted new old) ≡ new
 exchanged_new old new up =
