@@ -26,6 +26,7 @@ mod logs;
 mod marking;
 mod merging;
 mod moving;
+mod moving_rows;
 mod new_rows;
 mod packing;
 mod pending;
@@ -45,5 +46,6 @@ mod sources;
 mod target;
 mod tuning;
 mod turnover;
+mod view_rows;
 
 pub use database::Database;
