@@ -2,7 +2,7 @@
 --     room_fits, room_not      whether the rows of one more have room
 --     stored_done, stored_full, stored_fault      what is meant of its declaration
 --     one_more_kept, one_more_stored      the state with it
-use Rattle.std.proofs.Common.{◌≡◌, ℕ, ◌+◌, ◌-◌, pos, ◌+ℤ◌, Bool, true, false, cond, nat_le, List, [], ◌∷◌, ◌++◌, length, replicate, refl, sym, ap, ◌∙◌, arith, Option, Some, None, Ok, Err}
+use Rattle.std.proofs.Common.{◌≡◌, ℕ, ◌+◌, ◌-◌, ◌≤◌, pos, ◌+ℤ◌, Bool, true, false, cond, nat_le, List, [], ◌∷◌, ◌++◌, map, length, replicate, refl, sym, ap, ◌∙◌, subst, arith, Option, Some, None, Result, Ok, Err}
 use Rattle.std.specs.Prelude.{◌&&◌}
 use Rattle.std.specs.List.{All}
 use Rattle.std.proofs.lemmas.List.Elements.{All-head, All-tail}
@@ -11,6 +11,7 @@ use Rattle.point_core.specs.declared.fault.Code.TheVariants.{E35, E46}
 use Rattle.point_core.specs.declared.fault.Place.{Place}
 use Rattle.point_core.specs.Faults.{fault}
 use Rattle.value_core.specs.Limits.{most_rows_in_all}
+use Rattle.value_core.specs.declared.refuse.Refuse.{Refuse}
 use Rattle.value_core.specs.declared.refuse.Refuse.TheVariants.{At, Plain}
 use Rattle.value_core.specs.Values.{Name, Heading, Relation, most_rows}
 use Rattle.log_times.specs.Logs.{moved}
@@ -20,7 +21,7 @@ use Rattle.tree_core.specs.declared.tree.RelTree.{RelTree}
 use Rattle.tree_core.specs.Trees.{Tree, read_form, read_tree}
 use Rattle.meaning_core.specs.Logs.{base_rows, turned_logs, turned_relvar}
 use Rattle.meaning_core.specs.Meanings.{meaning_in}
-use Rattle.meaning_core.specs.StoredRows.{IsValueOf}
+use Rattle.meaning_core.specs.StoredRows.{AreStored, IsValueOf}
 use Rattle.meaning_core.specs.WellMade.{IsWellMade, sizes_of}
 use Rattle.relvar_logs.specs.Room.{are_each_few, left_of, log_count, rows_of_logs}
 use Rattle.relvar_logs.specs.Turning.{IsOfBase}
@@ -33,7 +34,7 @@ use Rattle.stored_views.proofs.BehindLemmas.{few-one_more, rows-one_more, stored
 use Rattle.assign_core.specs.Breaches.{rows_of_all}
 use Rattle.assign_core.specs.Databases.{IsKept}
 use Rattle.assign_core.specs.Keeping.{has_room_beside, placed_behind, AreStoredIn}
-use Rattle.assign_core.specs.Room.{have_room, stored_if, stored_in, with_stored, HasStoredRoom}
+use Rattle.assign_core.specs.Room.{have_room, if_room, stored_if, stored_in, with_stored, HasStoredRoom}
 use Rattle.assign_core.proofs.DeclaredLemmas.{kept_more, rows_of_both, rules_stay}
 use Rattle.assign_core.proofs.LogLemmas.{fits, fits_not, turned}
 use Rattle.assign_core.proofs.StoredLemmas.{room_stored}

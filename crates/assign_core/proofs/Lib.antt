@@ -47,11 +47,9 @@ pub mod ToldLemmas
 pub mod TouchLemmas
 pub mod KindLemmas
 pub mod UnstoredLemmas
-pub mod ViewRowLemmas
 pub mod RenewedNames
 pub mod CrowdLemmas
 pub mod StoredLemmas
 pub mod MovingLemmas
-pub mod MovingRowLemmas
 pub mod KeepingLemmas
 pub mod DroppedLemmas

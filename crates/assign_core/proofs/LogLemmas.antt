@@ -198,7 +198,7 @@ no-rows (e ∷ es) none =
     no-rows-one (view t kind) h = (refl, refl)
     no-rows-one (log of side last w) h = absurd (true≢false h)
 
-pub and-true : (b : Bool) → (b && true) ≡ b
+and-true : (b : Bool) → (b && true) ≡ b
 and-true true = refl
 and-true false = refl
 

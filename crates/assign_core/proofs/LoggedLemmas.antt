@@ -1,7 +1,7 @@
 -- A base relvar that gains and loses rows, as its log does.
 --     to_change, has_changed      the log is to tell that, before the base relvar has changed and after
 --     fits_then      there is room for the rows of all logs then
-use Rattle.std.proofs.Common.{◌≡◌, ℕ, ◌+◌, ◌≤◌, Bool, true, nat_le, List, length, ap, arith, Some}
+use Rattle.std.proofs.Common.{◌≡◌, ℕ, ◌+◌, ◌≤◌, ℤ, Bool, true, nat_le, List, length, sym, ap, arith, Some}
 use Rattle.std.specs.Prelude.{◌&&◌}
 use Rattle.std.specs.List.{All}
 use Rattle.std.proofs.lemmas.Bool.Decides.{nat_tests}

@@ -1,8 +1,8 @@
 -- Assignments where rows of views are stored.
---     pending_refused, admitted_moving, refused_moving      why they are refused before anything changes
+--     fault_moving, admitted_moving, refused_moving      why they are refused before anything changes
 --     moved_assigned, moved_kept, moved_stored      what comes of the changes that stand ready
 --     cost_moving      what takes steps until then
-use Rattle.std.proofs.Common.{◌≡◌, ◌+◌, ◌≤◌, Bool, true, false, cond, List, length, ap, ◌∙◌, sym, subst, arith, Option, Result, Ok, Err}
+use Rattle.std.proofs.Common.{◌≡◌, ℕ, ◌+◌, ◌≤◌, Bool, true, false, cond, List, length, ap, ◌∙◌, sym, subst, arith, Option, None, Result, Ok, Err}
 use Rattle.point_core.specs.declared.fault.Code.TheVariants.{E46}
 use Rattle.point_core.specs.declared.fault.Stop.{Stop}
 use Rattle.point_core.specs.declared.fault.Stop.TheVariants.{Fault as Faulted, Memory as OfMemory}
@@ -11,7 +11,7 @@ use Rattle.value_core.specs.declared.refuse.Refuse.{Refuse}
 use Rattle.value_core.specs.declared.refuse.Refuse.TheVariants.{Plain, At, Broken, Memory}
 use Rattle.value_core.specs.Refusals.{refusal_of}
 use Rattle.value_core.specs.Values.{Relation}
-use Rattle.relation_core.specs.Answers.{Answers}
+use Rattle.scalar_core.specs.Answers.{Gives}
 use Rattle.tree_core.specs.Items.{PlainAssignment}
 use Rattle.tree_core.specs.Relvars.{Entries, Rules, State}
 use Rattle.meaning_core.specs.StoredRows.{AreStored}
@@ -32,10 +32,10 @@ use Rattle.assign_core.proofs.StoredLemmas.{room_stored}
 
 -- ---- what is refused
 
-pub pending_refused : (es : Entries) (list : List PlainAssignment) (stop : Stop) → Answers {A = Entries} (Err stop) (evaluated es es list)
+pub fault_moving : {V : Type 0} (read : V → Entries) (es : Entries) (list : List PlainAssignment) (stop : Stop) → Gives read (Err stop) (evaluated es es list)
     → IsRefusedFor (refusal_of stop) (unless_full (evaluated es es list) (after_assignments es list))
-pending_refused es list (Faulted f) told = ap (λ (r : OrFault Entries). unless_full r (of_values r)) told
-pending_refused es list OfMemory told = tt
+fault_moving read es list (Faulted f) told = ap (λ (r : OrFault Entries). unless_full r (of_values r)) told
+fault_moving read es list OfMemory told = tt
 
 pub admitted_moving : (es new : Entries) (list : List PlainAssignment) (refuse : Refuse) → evaluated es es list ≡ Ok new → have_room new ≡ true → IsRefusedFor refuse (kept_or_refused new)
     → IsRefusedFor refuse (unless_full (evaluated es es list) (after_assignments es list))

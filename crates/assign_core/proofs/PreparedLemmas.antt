@@ -3,7 +3,8 @@
 --     prepared      they stand ready
 --     refused_in_place, cost_in_place      or their relvar's constraints refuse them
 --     values_prepared      new values that stand ready, and the logs after them
-use Rattle.std.proofs.Common.{◌≡◌, ◌+◌, List, true, length, refl, sym, ap, subst, ◌∙◌, Ok, Result}
+use Rattle.std.proofs.Common.{◌≡◌, ◌≤◌, ◌+◌, List, true, length, refl, sym, ap, subst, ◌∙◌, Ok, Result}
+use Rattle.point_core.specs.Faults.{OrFault}
 use Rattle.value_core.specs.declared.refuse.Refuse.{Refuse}
 use Rattle.value_core.specs.Values.{Name, Relation, most_rows}
 use Rattle.relation_core.specs.Operators.{subtracted}

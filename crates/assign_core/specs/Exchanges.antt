@@ -9,9 +9,9 @@ use Rattle.std.specs.Prelude.{◌≡◌, ◌≢◌, ℕ, zero, suc, ◌+◌, ◌
 use Rattle.std.specs.List.{All}
 use Rattle.std.specs.Vec.{vec_len, vec_capacity}
 use Rattle.value_core.specs.Values.{Relation, IsRelation, most_rows}
+use Rattle.relation_core.specs.Operators.{united}
 use Rattle.tree_core.specs.Relvars.{PlainRelvar, base, view, Entries, log}
 use Rattle.meaning_core.specs.Names.{with_value}
-use Rattle.u_constraints.specs.Growth.{exchanged}
 use Rattle.change_rows.specs.declared.exchange.Exchange.{Exchange}
 use Rattle.assign_core.specs.declared.exchange.Change.{Change}
 use Rattle.assign_core.specs.declared.exchange.Change.TheVariants.{Value, Rows}
@@ -105,7 +105,7 @@ refilled_relvar h (log of side last w) = log of side last w
 pub record IsHeld (value : Relation) (h : Held) (x : Exchange) : Type 0 where
   pub relation : IsRelation (refilled h value)
   pub headed : x.come.heading ≡ value.heading
-  pub few : length (exchanged (drop h.empty h.rows.items) x.gone.rows x.come.rows) ≤ most_rows
+  pub few : length (united (drop h.empty h.rows.items) x.come.rows) ≤ most_rows
   pub hashes : All (IsHashesOf value.heading (drop h.empty h.rows.items)) h.hashes.items
   pub room : HasRoom h.empty (vec_len h.rows) (vec_capacity h.rows) (length x.come.rows)
 

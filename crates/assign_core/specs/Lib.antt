@@ -18,7 +18,6 @@ pub mod Keeping
 pub mod Leanings
 pub mod Logs
 pub mod Moving
-pub mod MovingRows
 pub mod NewRows
 pub mod Parts
 pub mod Pendings

@@ -182,12 +182,8 @@ fn prepare_in_place<L: Ledger>(
     }))
 }
 
-/// The same exchange by rows that are new and rows that are there.
-pub(crate) fn differing(
-    alloc: Global,
-    value: &Relation,
-    rows: &Exchange,
-) -> Result<Exchange, Memory>
+// The same exchange by rows that are new and rows that are there.
+fn differing(alloc: Global, value: &Relation, rows: &Exchange) -> Result<Exchange, Memory>
     ensures { IfOk result (IsDiffering value.now rows.now) }
 {
     let more = absent(alloc, &rows.come, value)?;

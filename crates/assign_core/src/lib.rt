@@ -26,7 +26,6 @@ mod logs;
 mod marking;
 mod merging;
 mod moving;
-mod moving_rows;
 mod new_rows;
 mod packing;
 mod pending;
@@ -46,6 +45,5 @@ mod sources;
 mod target;
 mod tuning;
 mod turnover;
-mod view_rows;
 
 pub use database::Database;

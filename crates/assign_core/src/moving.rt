@@ -1,4 +1,4 @@
-// Assignments where rows of views are stored: values that are made whole, and the stored rows that move with them.
+// Assignments where rows of views are stored: all values are made whole, and the stored rows move with them.
 ghost use Rattle.std.specs.Prelude.{◌≡◌, ◌≤◌, ◌<ℤ◌, ◌+◌, ◌+ℤ◌, List, is_ok, length, map, pos, true, IfErr, IfOk, Ok};
 ghost use Rattle.std.specs.List.{All};
 ghost use Rattle.point_core.specs.Whole.{greatest_whole};
@@ -9,7 +9,7 @@ ghost use Rattle.meaning_core.specs.StoredRows.{AreStored};
 ghost use Rattle.meaning_core.specs.Updates.{IsTypedAssignment};
 ghost use Rattle.stored_views.specs.NextRows.{renewed, AreNextTo};
 ghost use Rattle.assign_core.specs.Assignments.{after_assignments, evaluated, IsAssigned, IsRefusedFor};
-ghost use Rattle.assign_core.specs.Costs.{constraints_cost, cost_of_assignments, rules_cost, rules_cost_of};
+ghost use Rattle.assign_core.specs.Costs.{assignments_cost, cost_of_assignments, moves_cost_of, rules_cost, rules_cost_of};
 ghost use Rattle.assign_core.specs.Databases.{IsKept, IsSettled};
 ghost use Rattle.assign_core.specs.Exchanges.{exchanged_by, ArePrepared, AreValues};
 ghost use Rattle.assign_core.specs.Hashed.{AreHashed};
@@ -19,10 +19,11 @@ ghost use Rattle.assign_core.specs.Logs.{counted_if};
 ghost use Rattle.assign_core.specs.Moving.{IsMoving};
 ghost use Rattle.assign_core.specs.Room.{unless_full};
 
+use crate::admitting::admit_values;
+use crate::evaluating::new_values;
 use crate::exchange::{Change, Ready, exchange};
-use crate::filling::fill;
 use crate::hashed::Hashed;
-use crate::moving_rows::{ReadyToMove, move_rows, ready_to_move};
+use crate::rooms::ready_beside;
 use crate::rules::{check_rules, leaning};
 use crate::settling::{exchange_back, values};
 use log_times::Log;
@@ -44,7 +45,7 @@ pub(crate) struct Moving {
 
 /// New values of base relvars, and the rows that views then have, one place for each entry.
 #[derive(Drop)]
-pub(crate) struct NewValues {
+pub(crate) struct Moved {
     pub changes: Vec<Change>,
     pub rows: Vec<Option<Relation>>,
 }
@@ -72,14 +73,33 @@ pub(crate) fn assign_moving<L: Ledger>(
     ensures stored { AreStoredIn (read_relvars relvars.new) stored.new.items }
     ensures cost { steps.new ≤ steps.old + cost_of_assignments (read_relvars relvars.old) (map read_assignment list.now) }
 {
-    fill(alloc, list, relvars, hashed)?;
-    let ready = ready_to_move(alloc, list, relvars, hashed, stored.as_slice(), steps)?;
-    match ready {
-        ReadyToMove::Rows(rows) => move_rows(alloc, relvars, hashed, stored, rows),
-        ReadyToMove::Values(moving) => {
-            perform_moving(alloc, relvars, hashed, stored, moving, steps)
-        }
-    }
+    let moving = prepare_moving(alloc, list, relvars, stored.as_slice(), steps)?;
+    perform_moving(alloc, relvars, hashed, stored, moving, steps)
+}
+
+// What stands ready, or why the assignments are refused: too many rows come before broken constraints.
+fn prepare_moving<L: Ledger>(
+    alloc: Global,
+    list: &[Assignment],
+    relvars: &Relvars,
+    stored: &[Option<Relation>],
+    steps: &mut Steps<L>,
+) -> Result<Moving, Refuse>
+    requires kept { IsKept (read_relvars relvars.now) }
+    requires step { AreInStep (read_relvars relvars.now).accepted (read_relvars relvars.now).relvars }
+    requires room { ((read_relvars relvars.now).accepted +ℤ pos 1) <ℤ greatest_whole }
+    requires stored { AreStored (read_relvars relvars.now).relvars stored.now }
+    requires typed { All (λ a. IsTypedAssignment (read_relvars relvars.now) (read_assignment a)) list.now }
+    ensures moving { IfOk result (IsMoving (read_relvars relvars.now) stored.now (map read_assignment list.now)) }
+    ensures refused { IfErr result (λ refuse. IsRefusedFor refuse
+        (unless_full (evaluated (read_relvars relvars.now).relvars (read_relvars relvars.now).relvars (map read_assignment list.now)) (after_assignments (read_relvars relvars.now).relvars (map read_assignment list.now)))) }
+    ensures cost { steps.new ≤ steps.old + (assignments_cost (read_relvars relvars.now).relvars (map read_assignment list.now)
+        + moves_cost_of (read_relvars relvars.now).relvars (evaluated (read_relvars relvars.now).relvars (read_relvars relvars.now).relvars (map read_assignment list.now))) }
+{
+    let changes = new_values(alloc, list, relvars, stored, steps)?;
+    let (logs, rows) = ready_beside(alloc, relvars, stored, changes.as_slice(), steps)?;
+    let ready = admit_values(alloc, relvars, changes, steps)?;
+    Ok(Moving { ready, logs, rows })
 }
 
 // Makes the changes that stand ready, and counts the statement.
@@ -113,7 +133,7 @@ fn perform_moving<L: Ledger>(
         rows,
     } = moving;
     let changes = values(alloc, relvars, ready)?;
-    let mut moved = NewValues { changes, rows };
+    let mut moved = Moved { changes, rows };
     move_and_check(
         alloc,
         relvars,
@@ -133,7 +153,7 @@ fn move_and_check<L: Ledger>(
     relvars: &mut Relvars,
     hashed: &mut Hashed,
     stored: &mut Vec<Option<Relation>>,
-    moved: &mut NewValues,
+    moved: &mut Moved,
     told: &[bool],
     steps: &mut Steps<L>,
 ) -> Result<(), Refuse>

@@ -2,7 +2,7 @@
 ghost use Rattle.std.specs.Prelude.{◌≡◌, ◌≤◌, length, IfOk, IfSome, OnErr};
 ghost use Rattle.std.specs.List.{All};
 ghost use Rattle.value_core.specs.Values.{Heading, most_rows};
-ghost use Rattle.u_constraints.specs.Growth.{exchanged};
+ghost use Rattle.relation_core.specs.Operators.{united};
 ghost use Rattle.assign_core.specs.Exchanges.{refilled, IsHeld};
 ghost use Rattle.assign_core.specs.Hashed.{IsHashesOf};
 ghost use Rattle.assign_core.specs.Turnovers.{renewed};
@@ -33,7 +33,7 @@ pub(crate) fn hold(
     rows: &Exchange,
 ) -> Result<Held, Memory>
     requires heading { rows.now.come.heading ≡ value.old.heading }
-    requires few { length (exchanged value.old.rows rows.now.gone.rows rows.now.come.rows) ≤ most_rows }
+    requires few { length (united value.old.rows rows.now.come.rows) ≤ most_rows }
     requires hashes { All (IsHashesOf value.old.heading value.old.rows) hashes.items }
     ensures back { IfOk result (λ h. refilled h value.new ≡ value.old) }
     ensures held { IfOk result (λ h. IsHeld value.new h rows.now) }

@@ -6,7 +6,7 @@ use Rattle.tree_core.specs.Relvars.{Entries, read_relvars}
 use Rattle.assign_core.specs.Assignments.{of_values, IsRefusedFor}
 use Rattle.assign_core.specs.Costs.{constraints_cost_of}
 use Rattle.assign_core.specs.Targets.{entries_before}
-use Rattle.assign_core.specs.Exchanges.{exchanged_by, ArePrepared}
+use Rattle.assign_core.specs.Exchanges.{exchanged_by, with_ready, ArePrepared}
 use Rattle.assign_core.specs.declared.exchange.Change.{Change}
 use Rattle.assign_core.specs.Turnovers.{renewed_at}
 use Rattle.assign_core.proofs.AdditionLemmas.{exchange_ready}

@@ -4,6 +4,7 @@ use Rattle.point_core.specs.Faults.{OrFault}
 use Rattle.tree_core.specs.declared.relvar.Relvars.{Relvars}
 use Rattle.tree_core.specs.Relvars.{Entries, read_entry, read_relvars}
 use Rattle.relvar_logs.specs.Changes.{changed}
+use Rattle.assign_core.specs.declared.pending.Pending.{Pending}
 use Rattle.assign_core.specs.Assignments.{of_values, IsRefusedFor}
 use Rattle.assign_core.specs.Costs.{constraints_cost_of}
 use Rattle.assign_core.specs.Databases.{IsKept}

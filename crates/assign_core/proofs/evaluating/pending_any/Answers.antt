@@ -1,4 +1,4 @@
-use Rattle.std.proofs.Common.{ap, sym, ◌∙◌, Ok}
+use Rattle.std.proofs.Common.{◌≡◌, ap, sym, ◌∙◌, Ok}
 use Rattle.std.proofs.lemmas.Result.{err_from_is_err_and}
 use Rattle.meaning_core.specs.Meanings.{limited}
 use Rattle.meaning_core.proofs.LookupLemmas.{under_ok}

@@ -1,4 +1,4 @@
-use Rattle.std.proofs.Common.{◌+ℤ◌, ◌<ℤ◌, ℤ, pos, zero, map, ap, sym, subst, ◌∙◌}
+use Rattle.std.proofs.Common.{◌≡◌, ◌≤◌, ◌+ℤ◌, ◌<ℤ◌, ℤ, pos, zero, map, length, ap, sym, subst, ◌∙◌}
 use Rattle.point_core.specs.Whole.{greatest_whole}
 use Rattle.tree_core.specs.Relvars.{read_entry, read_relvars, read_rule, Entries, State}
 use Rattle.meaning_core.specs.Declarations.{counted}

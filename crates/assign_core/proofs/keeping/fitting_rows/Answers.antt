@@ -1,4 +1,4 @@
-use Rattle.std.proofs.Common.{List, sym, ap, ◌∙◌, length, subst}
+use Rattle.std.proofs.Common.{◌≡◌, ℕ, List, sym, ap, ◌∙◌, length, subst}
 use Rattle.value_core.specs.Values.{Row}
 use Rattle.tree_core.specs.Relvars.{read_relvars}
 use Rattle.tree_core.specs.Trees.{read_tree}

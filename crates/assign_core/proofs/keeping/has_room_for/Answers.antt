@@ -5,7 +5,7 @@ use Rattle.meaning_core.specs.Logs.{turned_logs}
 use Rattle.relvar_logs.specs.Room.{are_each_few, rows_of_logs}
 use Rattle.stored_views.specs.Stored.{rows_of_stored}
 use Rattle.assign_core.specs.Breaches.{rows_of_all}
-use Rattle.assign_core.proofs.KeepingLemmas.{room_not}
+use Rattle.assign_core.proofs.KeepingLemmas.{room_fits, room_not}
 use Rattle.assign_core.proofs.LogLemmas.{none_ready}
 use Rattle.assign_core.proofs.keeping.has_room_for.Goals as goal
 

@@ -1,5 +1,6 @@
-use Rattle.std.proofs.Common.{List, Bool, sym, subst, ◌∙◌, refl, arith, Option, Ok, Err}
+use Rattle.std.proofs.Common.{◌≡◌, List, Bool, length, sym, ap, subst, ◌∙◌, refl, arith, Option, Ok, Err}
 use Rattle.std.proofs.lemmas.Result.{err_from_is_err_and}
+use Rattle.value_core.specs.Values.{Relation}
 use Rattle.log_times.specs.Kept.{PlainLog}
 use Rattle.tree_core.specs.Relvars.{Entries, State, read_relvars}
 use Rattle.meaning_core.specs.StoredRows.{AreStored}

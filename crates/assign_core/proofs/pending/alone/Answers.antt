@@ -1,4 +1,5 @@
-use Rattle.std.proofs.Common.{◌≡◌, arith, length, sym, ap, subst, ◌∙◌, None, replicate}
+use Rattle.std.proofs.Common.{◌≡◌, arith, length, sym, ap, subst, ◌∙◌, Some, None, replicate}
+use Rattle.std.specs.Prelude.{slice_set}
 use Rattle.std.proofs.lemmas.List.{length-replicate}
 use Rattle.tree_core.specs.Relvars.{base, read_relvars}
 use Rattle.relvar_logs.specs.Changes.{Changes, AreChanges}

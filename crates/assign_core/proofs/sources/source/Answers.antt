@@ -1,6 +1,6 @@
-use Rattle.std.proofs.Common.{◌≡◌, map, sym, ap, ◌∙◌, arith, Option, Some, None, option_map}
-use Rattle.value_core.specs.Values.{Relation}
-use Rattle.tree_core.specs.Relvars.{read_entry, read_relvars}
+use Rattle.std.proofs.Common.{◌≡◌, ◌≤◌, ◌+◌, map, sym, ap, ◌∙◌, subst, arith, Option, Some, None, option_map}
+use Rattle.value_core.specs.Values.{Name, Relation}
+use Rattle.tree_core.specs.Relvars.{Entries, read_entry, read_relvars, relvar_named}
 use Rattle.tree_core.specs.Trees.{read_tree}
 use Rattle.meaning_core.specs.Names.{given}
 use Rattle.meaning_core.proofs.LookupLemmas.{given_none}
